@@ -1,0 +1,6 @@
+//! The names of flags, packages and containers, and what every layer says of them.
+#![tactic(auto)]
+
+mod names;
+
+pub use names::{is_container, is_name, is_package};
