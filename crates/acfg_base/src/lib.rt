@@ -2,5 +2,7 @@
 #![tactic(auto)]
 
 mod names;
+mod order;
 
 pub use names::{is_container, is_name, is_package};
+pub use order::one_order;

@@ -1,0 +1,10 @@
+//! Texts as teams write them, read exactly.
+#![tactic(auto)]
+
+mod form;
+mod plain;
+mod reader;
+mod text;
+
+pub use plain::{Plain, PlainFault, PlainFlag, PlainWhat, one_reading, read_plain};
+pub use text::Text;
