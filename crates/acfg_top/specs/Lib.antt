@@ -1,0 +1,4 @@
+pub mod Outcome
+pub mod Stop
+pub mod Told
+pub mod Words

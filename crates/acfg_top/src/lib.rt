@@ -1,0 +1,12 @@
+//! The program: words and files in, words said and a status out.
+#![tactic(auto)]
+
+mod flags;
+mod stop;
+#[cfg(test)]
+mod tests;
+mod told;
+mod top;
+mod words;
+
+pub use top::{one_outcome, run};
