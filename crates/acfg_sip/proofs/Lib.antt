@@ -1,4 +1,4 @@
+pub mod BucketFacts
 pub mod Holding
 pub mod Rounds
-pub mod Sizes
 pub mod Words

@@ -1,5 +1,5 @@
 -- The words of a message, as bytes are added to it and as it is read from the front.
-use Rattle.std.proofs.Common.{◌≡◌, ℕ, suc, ◌+◌, ◌*◌, ◌%◌, ◌^◌, ◌<◌, ◌≤◌, List, [], ◌∷◌, ◌++◌, length, take, drop, fold, refl, ap, arith}
+use Rattle.std.proofs.Common.{◌≡◌, ℕ, ◌+◌, ◌*◌, ◌%◌, ◌^◌, ◌<◌, ◌≤◌, List, [], ◌∷◌, ◌++◌, length, take, drop, fold, refl, ap, arith}
 use Rattle.std.specs.Int.{w64, from_le_bytes}
 use Rattle.acfg_sip.specs.SipHash.{State, compressed, partial_group, whole_words}
 

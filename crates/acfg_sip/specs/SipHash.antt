@@ -24,7 +24,8 @@ unfoldable pub partial_group : List ℕ → List ℕ
 partial_group (b0 ∷ b1 ∷ b2 ∷ b3 ∷ b4 ∷ b5 ∷ b6 ∷ b7 ∷ bytes) = partial_group bytes
 partial_group bytes = bytes
 
--- the last word: these bytes from the low end, and in the highest byte the length modulo 256
+-- the last word: these bytes from the low end (`from_le_bytes` takes a byte that isn't there as 0),
+-- and in the highest byte the length modulo 256
 abbrev pub last_word : List ℕ → ℕ
 last_word bytes = from_le_bytes w64 (partial_group bytes) + length bytes % 256 * 2 ^ 56
 

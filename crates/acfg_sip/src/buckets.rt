@@ -1,10 +1,15 @@
 //! Which bucket of a map file a key is in, and how many buckets a map file is written with.
 
-ghost use Rattle.std.specs.Prelude.{◌≡◌, ◌<◌, ◌≤◌, ◌*◌, ◌↔◌, IsNone, IfSome, find, nat_le};
+ghost use Rattle.std.specs.Prelude.{◌≡◌, ◌<◌, ◌≤◌, ◌*◌, ◌↔◌, ℕ, List, IsNone, IfSome, find, nat_le};
 ghost use Rattle.acfg_sip.specs.Buckets.{bucket_counts, flag_key, hash, size};
+ghost use Rattle.acfg_sip.specs.Hasher.{Holds};
+ghost use Rattle.acfg_sip.specs.SipHash.{initialized};
 
 use crate::hasher::Hasher;
 use itoa::Buffer;
+
+// Buckets are found by SipHash-1-3, with zero keys.
+type KeyHasher = Hasher<1, 3>;
 
 // The byte that ends a key.
 const KEY_END: u8 = 0xff;
@@ -20,10 +25,9 @@ pub fn bucket(key: &[u8], n: u32) -> u32
     ensures value { result ≡ hash key.now n }
     ensures below { result < n }
 {
-    let mut hasher = Hasher::<1, 3>::new(0, 0);
+    let mut hasher = KeyHasher::new(0, 0);
     hasher.write(key);
-    hasher.push(KEY_END);
-    (hasher.finish() % u64::from(n)) as u32
+    bucket_of(hasher, n)
 }
 
 /// The bucket among `n` of a flag: that of the key which is its package's id in decimal, `/` and
@@ -34,10 +38,19 @@ pub fn flag_bucket(package_id: u32, flag: &[u8], n: u32) -> u32
     ensures below { result < n }
 {
     let mut digits = Buffer::new();
-    let mut hasher = Hasher::<1, 3>::new(0, 0);
+    let mut hasher = KeyHasher::new(0, 0);
     hasher.write(digits.format(package_id).as_bytes());
     hasher.push(b'/');
     hasher.write(flag);
+    bucket_of(hasher, n)
+}
+
+// The bucket among `n` of the key that the hasher has taken in.
+fn bucket_of(mut hasher: KeyHasher, n: u32) -> u32
+    requires { 0 < n }
+    ensures value { (key : List ℕ) → Holds (initialized 0 0) hasher key → result ≡ hash key n }
+    ensures below { result < n }
+{
     hasher.push(KEY_END);
     (hasher.finish() % u64::from(n)) as u32
 }
@@ -48,6 +61,7 @@ pub fn table_size(entries: u32) -> Option<u32>
     ensures value { result ≡ size entries }
     ensures none { IsNone result ↔ (196620 < entries) }
     ensures room { IfSome result (λ count. 2 * entries ≤ count) }
+    ensures bounds { IfSome result (λ count. (7 ≤ count) × (count ≤ 393241)) }
 {
     first_count(2 * u64::from(entries))
 }

@@ -7,6 +7,8 @@ mod buckets;
 mod hasher;
 mod siphash;
 mod state;
+#[cfg(test)]
+mod tests;
 
 pub use buckets::{bucket, flag_bucket, table_size};
 pub use siphash::sip;

@@ -1,6 +1,6 @@
 use Rattle.std.proofs.Common.{◌≡◌, ◌*◌, find, nat_le, ap, ◌∙◌}
 use Rattle.acfg_sip.specs.Buckets.{bucket_counts, size}
-use Rattle.acfg_sip.proofs.Sizes.{size-none, size-many, size-room}
+use Rattle.acfg_sip.proofs.BucketFacts.{size-none, size-many, size-room, size-bounds}
 use Rattle.acfg_sip.proofs.buckets.table_size.Goals as goal
 
 pub returns : goal.returns
@@ -11,4 +11,5 @@ returns c =
       value = value;
       none = rw value (size-many c.args.entries, size-none c.args.entries);
       room = rw value (size-room c.args.entries);
+      bounds = rw value (size-bounds c.args.entries);
     }

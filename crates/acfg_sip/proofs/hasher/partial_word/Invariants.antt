@@ -1,4 +1,4 @@
-use Rattle.std.proofs.Common.{◌≡◌, ℕ, ◌*◌, ◌^◌, ◌<◌, take}
+use Rattle.std.proofs.Common.{◌≡◌, ◌*◌, ◌^◌, ◌<◌, take}
 use Rattle.std.specs.Int.{w64, from_le_bytes}
 use Rattle.acfg_sip.proofs.hasher.partial_word.Given as goal
 

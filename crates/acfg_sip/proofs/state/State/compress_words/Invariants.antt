@@ -1,4 +1,4 @@
-use Rattle.std.proofs.Common.{◌≡◌, ℕ, length, fold}
+use Rattle.std.proofs.Common.{◌≡◌, length, fold}
 use Rattle.acfg_sip.specs.SipHash.{compressed, partial_group, whole_words}
 use Rattle.acfg_sip.proofs.state.State.compress_words.Given as goal
 
