@@ -14,7 +14,8 @@ flag_key package_id flag = decimal package_id ++ codes "/" ++ flag
 -- the counts of buckets that a map file may be written with
 abbrev pub bucket_counts : List ℕ
 bucket_counts =
-    7 ∷ 17 ∷ 29 ∷ 53 ∷ 97 ∷ 193 ∷ 389 ∷ 769 ∷ 1543 ∷ 3079 ∷ 6151 ∷ 12289 ∷ 24593 ∷ 49157 ∷ 98317 ∷ 196613 ∷ 393241 ∷ []
+    7 ∷ 17 ∷ 29 ∷ 53 ∷ 97 ∷ 193 ∷ 389 ∷ 769 ∷ 1543 ∷ 3079 ∷ 6151 ∷ 12289
+    ∷ 24593 ∷ 49157 ∷ 98317 ∷ 196613 ∷ 393241 ∷ []
 
 -- the count for so many entries: the first one that is at least twice as many
 unfoldable pub size : ℕ → Option ℕ

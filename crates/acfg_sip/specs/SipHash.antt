@@ -1,4 +1,4 @@
--- SipHash-C-D as a function on lists of bytes. Names and section numbers are those of the paper:
+-- SipHash-C-D as a function on lists of bytes. The steps and their names are those of the paper:
 -- Aumasson and Bernstein, "SipHash: a fast short-input PRF" (2012), section 2.
 -- A word is a number below 2 ^ 64, and a list of bytes reads as a word with its first byte lowest.
 use Rattle.std.specs.Prelude.{ℕ, zero, suc, ◌+◌, ◌*◌, ◌%◌, ◌^◌, List, [], ◌∷◌, ◌++◌, length, fold, bit_xor}
@@ -11,7 +11,7 @@ pub record State : Type 0 where
   pub v2 : ℕ
   pub v3 : ℕ
 
--- ---- the message as words (2.2)
+-- ---- the message as words
 
 -- the whole groups of eight bytes, each as a word
 unfoldable pub whole_words : List ℕ → List ℕ
@@ -29,10 +29,11 @@ partial_group bytes = bytes
 abbrev pub last_word : List ℕ → ℕ
 last_word bytes = from_le_bytes w64 (partial_group bytes) + length bytes % 256 * 2 ^ 56
 
+-- the words of a message: one for each whole group, and the last
 abbrev pub words_of : List ℕ → List ℕ
 words_of bytes = whole_words bytes ++ last_word bytes ∷ []
 
--- ---- the round (2.4)
+-- ---- the round
 
 -- the sum of two words, modulo 2 ^ 64
 abbrev pub word_sum : ℕ → ℕ → ℕ
@@ -62,7 +63,7 @@ sip_rounds (suc n) s = sip_round (sip_rounds n s)
 
 -- ---- the hash
 
--- initialization (2.1): the keys, each exclusive or'd with the paper's constants
+-- initialization: the keys, each exclusive or'd with the paper's constants
 unfoldable pub initialized : ℕ → ℕ → State
 initialized key0 key1 = record {
   v0 = bit_xor key0 0x736f6d6570736575;
@@ -71,13 +72,13 @@ initialized key0 key1 = record {
   v3 = bit_xor key1 0x7465646279746573;
 }
 
--- compression (2.2) of one word: into v3, then c rounds, then into v0
+-- compression of one word: into v3, then c rounds, then into v0
 unfoldable pub compressed : ℕ → State → ℕ → State
 compressed c s word =
     let t = sip_rounds c (record s { v3 = bit_xor s.v3 word }) in
     record t { v0 = bit_xor t.v0 word }
 
--- finalization (2.3): 0xff into v2, then d rounds, and the exclusive or of the four words
+-- finalization: 0xff into v2, then d rounds, and the exclusive or of the four words
 unfoldable pub finalized : ℕ → State → ℕ
 finalized d s =
     let t = sip_rounds d (record s { v2 = bit_xor s.v2 0xff }) in
@@ -85,4 +86,5 @@ finalized d s =
 
 -- SipHash-C-D: the words of the message are compressed one after another
 unfoldable pub siphash : ℕ → ℕ → ℕ → ℕ → List ℕ → ℕ
-siphash c d key0 key1 bytes = finalized d (fold (compressed c) (initialized key0 key1) (words_of bytes))
+siphash c d key0 key1 bytes =
+    finalized d (fold (compressed c) (initialized key0 key1) (words_of bytes))

@@ -17,7 +17,7 @@ pub(crate) struct Hasher<const C: usize, const D: usize> {
 }
 
 impl<const C: usize, const D: usize> Hasher<C, D> {
-    ghost use Rattle.acfg_sip.specs.Hasher.{Holds};
+    ghost use Rattle.acfg_sip.specs.Hasher.{Holds, TakesIn};
     ghost use Rattle.acfg_sip.specs.SipHash.{State, compressed, finalized, initialized, words_of};
     ghost use Rattle.std.specs.Prelude.{fold};
 
@@ -34,7 +34,7 @@ impl<const C: usize, const D: usize> Hasher<C, D> {
 
     /// Adds one byte to the message.
     pub(crate) fn push(&mut self, byte: u8)
-        ensures holds { (start : State) (message : List ℕ) → Holds start self.old message → Holds start self.new (message ++ byte ∷ []) }
+        ensures holds { TakesIn self.old self.new (byte ∷ []) }
         ensures count { self.new.count ≡ (self.old.count + 1) % 256 }
     {
         self.partial += u64::from(byte) << (self.count % 8 * 8);
@@ -47,7 +47,7 @@ impl<const C: usize, const D: usize> Hasher<C, D> {
 
     // Adds these bytes to the message, one by one.
     fn push_all(&mut self, bytes: &[u8])
-        ensures holds { (start : State) (message : List ℕ) → Holds start self.old message → Holds start self.new (message ++ bytes.now) }
+        ensures holds { TakesIn self.old self.new bytes.now }
         ensures count { self.new.count ≡ (self.old.count + length bytes.now) % 256 }
     {
         for byte in bytes {
@@ -58,7 +58,7 @@ impl<const C: usize, const D: usize> Hasher<C, D> {
     // Adds these bytes to a message of whole words.
     fn write_words(&mut self, bytes: &[u8])
         requires { self.old.count % 8 ≡ 0 }
-        ensures { (start : State) (message : List ℕ) → Holds start self.old message → Holds start self.new (message ++ bytes.now) }
+        ensures { TakesIn self.old self.new bytes.now }
     {
         let (state, rest) = self.state.compress_words::<C>(bytes);
         self.state = state;
@@ -68,7 +68,7 @@ impl<const C: usize, const D: usize> Hasher<C, D> {
 
     /// Adds these bytes to the message, eight at a time as soon as they stand at a word's start.
     pub(crate) fn write(&mut self, bytes: &[u8])
-        ensures { (start : State) (message : List ℕ) → Holds start self.old message → Holds start self.new (message ++ bytes.now) }
+        ensures { TakesIn self.old self.new bytes.now }
     {
         let missing = usize::from((8 - self.count % 8) % 8);
         if bytes.len() < missing {
@@ -82,7 +82,8 @@ impl<const C: usize, const D: usize> Hasher<C, D> {
 
     /// The hash of the message.
     pub(crate) fn finish(self) -> u64
-        ensures { (start : State) (message : List ℕ) → Holds start self.entry message → result ≡ finalized D (fold (compressed C) start (words_of message)) }
+        ensures { (start : State) (message : List ℕ) → Holds start self.entry message →
+            result ≡ finalized D (fold (compressed C) start (words_of message)) }
     {
         let last = self.partial + (u64::from(self.count) << 56);
         self.state.compress::<C>(last).finalize::<D>()

@@ -5,7 +5,7 @@ ghost use Rattle.acfg_sip.specs.SipHash as spec;
 
 use std::marker::Model;
 
-/// The four words of SipHash's internal state (section 2.1 of the paper).
+/// The four words of SipHash's internal state (section 2 of its paper).
 #[derive(Clone, Copy)]
 pub(crate) struct State {
     v0: u64,
@@ -36,6 +36,7 @@ impl State {
         }
     }
 
+    // SipRound. The two halves of a step are independent, so they are interleaved.
     #[tactic(auto, unfolding(crate::specs::SipHash::sip_round))]
     fn round(self) -> State
         ensures { result ≡ spec.sip_round self }
@@ -68,8 +69,8 @@ impl State {
         self
     }
 
-    #[tactic(auto, unfolding(crate::specs::SipHash::compressed))]
     /// The state with one more word of the message in it, after `C` rounds.
+    #[tactic(auto, unfolding(crate::specs::SipHash::compressed))]
     pub(crate) fn compress<const C: usize>(mut self, word: u64) -> State
         ensures { result ≡ spec.compressed C self word }
     {
@@ -92,8 +93,8 @@ impl State {
         (self, rest)
     }
 
-    #[tactic(auto, unfolding(crate::specs::SipHash::finalized))]
     /// The hash, after `D` rounds.
+    #[tactic(auto, unfolding(crate::specs::SipHash::finalized))]
     pub(crate) fn finalize<const D: usize>(mut self) -> u64
         ensures { result ≡ spec.finalized D self }
     {
