@@ -1,0 +1,61 @@
+use Rattle.std.proofs.Common.{◌≡◌, ◌<◌, ◌++◌, ◌∷◌, [], length, Result, Ok, Err, sym, arith}
+use Rattle.std.proofs.lemmas.Bool.{eqb-true, eqb-false}
+use Rattle.std.proofs.lemmas.List.{map_push}
+use Rattle.std.specs.Global.{Vec}
+use Rattle.acfg_wire.specs.declared.fault.Fault.TheVariants as one
+use Rattle.acfg_wire.specs.declared.fault.WireFault.{WireFault}
+use Rattle.acfg_wire.specs.declared.fault.WireFault.TheVariants.{Truncated, LongVarint, BadType}
+use Rattle.acfg_wire.specs.declared.field.Field.{Field}
+use Rattle.acfg_wire.specs.Fields.{field_of, fields_of, places_of}
+use Rattle.acfg_wire.proofs.Answer.{IsAnswer, so_far_first, so_far_next, so_far_last, so_far_fault, fault_answer, told, told_is, read_again, shorter}
+use Rattle.acfg_wire.proofs.reading.read_fields.Goals as goal
+
+pub loop-rest-init : goal.loop-rest-init
+loop-rest-init c = rw c.new-fields.ensures.items (so_far_first c.args.bytes.now)
+
+pub loop-rest-smaller : goal.loop-rest-smaller
+loop-rest-smaller c =
+    shorter c.args.bytes.now c.loop-rest.rest.now _ _ (field_of c.in-Ok.field) c.in-Ok.behind.now (λ i. omega (arith, c.type_inv.bytes i)) c.loop-rest.invariant c.in-Ok.ensures.field
+
+pub loop-rest-preserved : goal.loop-rest-preserved
+loop-rest-preserved c =
+    let next = so_far_next c.args.bytes.now c.loop-rest.rest.now _ _ (field_of c.in-Ok.field) c.in-Ok.behind.now (λ i. omega (arith, c.type_inv.bytes i)) c.loop-rest.invariant c.in-Ok.ensures.field in
+    let fields : fields_of c.push.new.self.items ≡ fields_of c.loop-rest.fields.items ++ field_of c.in-Ok.field ∷ [] = rw c.in_ok-push-in-Ok.ensures.items (map_push _ c.loop-rest.fields.items c.in-Ok.field) in
+    let places : places_of c.push.new.self.items ≡ places_of c.loop-rest.fields.items ++ c.in-Ok.field.place ∷ [] = rw c.in_ok-push-in-Ok.ensures.items (map_push _ c.loop-rest.fields.items c.in-Ok.field) in
+    rw (fields, places, c.in-Ok.ensures.place) next
+
+pub returns-in-Err : goal.returns-in-Err
+returns-in-Err c =
+    let bytes = c.args.bytes.now in
+    let some : 0 < length c.loop-rest.rest.now = omega (arith, eqb-false _ _ (sym c.loop-rest-test.ensures)) in
+    let first = so_far_fault bytes c.loop-rest.rest.now _ _ c.in-Err.fault (λ i. omega (arith, c.type_inv.bytes i)) c.loop-rest.invariant c.in-Err.ensures.field some in
+    let result : Result (Vec Field) WireFault = Err c.at.result in
+    let h : IsAnswer bytes result = rw c.at.ensures (fault_answer bytes c.in-Err.fault _ first) in
+    record {
+      fields = tt;
+      places = tt;
+      read = read_again bytes result h;
+      truncated = λ p e. told_is bytes result (Truncated p) h e;
+      long_varint = λ p e. told_is bytes result (LongVarint p) h e;
+      bad_type = λ p e. told_is bytes result (BadType p) h e;
+      tells_truncated = λ p fault. told one.Truncated bytes result p h fault;
+      tells_long_varint = λ p fault. told one.LongVarint bytes result p h fault;
+      tells_bad_type = λ p fault. told one.BadType bytes result p h fault;
+    }
+
+pub returns : goal.returns
+returns c =
+    let bytes = c.args.bytes.now in
+    let result : Result (Vec Field) WireFault = Ok c.loop-rest.fields in
+    let h : IsAnswer bytes result = so_far_last bytes c.loop-rest.rest.now _ _ c.loop-rest.invariant (eqb-true _ _ (sym c.loop-rest-test.ensures)) in
+    record {
+      fields = h.0;
+      places = h.1;
+      read = read_again bytes result h;
+      truncated = λ p e. told_is bytes result (Truncated p) h e;
+      long_varint = λ p e. told_is bytes result (LongVarint p) h e;
+      bad_type = λ p e. told_is bytes result (BadType p) h e;
+      tells_truncated = λ p fault. told one.Truncated bytes result p h fault;
+      tells_long_varint = λ p fault. told one.LongVarint bytes result p h fault;
+      tells_bad_type = λ p fault. told one.BadType bytes result p h fault;
+    }

@@ -1,0 +1,5 @@
+pub mod Varint
+pub mod Fields
+pub mod Faults
+pub mod Outcome
+pub mod Reading

@@ -1,0 +1,130 @@
+//! Bytes read as a list of fields.
+
+ghost use Rattle.std.specs.Prelude.{◌≡◌, ◌⊎◌, ℕ, List, IfOk, MatchResult, IsErrOf};
+ghost use Rattle.acfg_wire.specs.Fields.{WireField, IsFields, BeginAt, value_of, field_of, fields_of, places_of};
+ghost use Rattle.acfg_wire.specs.Faults.{IsFirstFault, IsTruncated, HasLongVarint, HasBadType};
+ghost use Rattle.acfg_wire.specs.Reading.{Gives, varint_at, front_at, value_at, field_at};
+
+use crate::fault::{Fault, WireFault};
+use crate::field::{Field, FieldValue};
+use std::alloc::Global;
+
+/// The place of a varint's tenth byte, which holds the last of 64 bits.
+const TENTH: usize = 9;
+
+/// Reads the varint at the front, and gives the bytes behind it.
+fn varint_of(bytes: &[u8]) -> Result<(u64, &[u8]), Fault>
+    ensures { Gives (λ read. (read.0, read.1.now)) result (varint_at bytes.now) }
+{
+    let mut value = 0;
+    for (i, byte) in bytes.iter().enumerate() {
+        let byte = *byte;
+        if i == TENTH && byte > 1 {
+            return Err(Fault::LongVarint);
+        }
+        value |= u64::from(byte & 0x7f) << (7 * i);
+        if byte < 0x80 {
+            return Ok((value, &bytes[i + 1..]));
+        }
+    }
+    Err(Fault::Truncated)
+}
+
+/// Takes so many bytes from the front, and gives those behind them.
+fn front_of(bytes: &[u8], count: u64) -> Result<(&[u8], &[u8]), Fault>
+    ensures { Gives (λ read. (read.0.now, read.1.now)) result (front_at count bytes.now) }
+{
+    bytes
+        .split_at_checked(count as usize)
+        .ok_or(Fault::Truncated)
+}
+
+/// Reads the value of a field of this wire type.
+#[tactic(auto, unfolding(crate::specs::Reading::value_at))]
+fn value_of_type(kind: u64, bytes: &[u8]) -> Result<(FieldValue<'_>, &[u8]), Fault>
+    ensures { Gives (λ read. (value_of read.0, read.1.now)) result (value_at kind bytes.now) }
+{
+    match kind {
+        0 => {
+            let (value, rest) = varint_of(bytes)?;
+            Ok((FieldValue::Varint(value), rest))
+        }
+        1 => {
+            let (content, rest) = front_of(bytes, 8)?;
+            Ok((FieldValue::Eight(content), rest))
+        }
+        2 => {
+            let (count, rest) = varint_of(bytes)?;
+            let (content, rest) = front_of(rest, count)?;
+            Ok((FieldValue::Bytes(content), rest))
+        }
+        5 => {
+            let (content, rest) = front_of(bytes, 4)?;
+            Ok((FieldValue::Four(content), rest))
+        }
+        _ => Err(Fault::BadType),
+    }
+}
+
+/// Reads the field at the front, whose key is at `place`, and gives the bytes behind it.
+#[tactic(auto, unfolding(crate::specs::Reading::field_at))]
+fn field_at_front(bytes: &[u8], place: usize) -> Result<(Field<'_>, &[u8]), Fault>
+    ensures field { Gives (λ read. (field_of read.0, read.1.now)) result (field_at bytes.now) }
+    ensures place { IfOk result (λ read. read.0.place ≡ place) }
+{
+    let (key, rest) = varint_of(bytes)?;
+    let number = key / 8;
+    if number == 0 {
+        return Err(Fault::BadType);
+    }
+    let (value, rest) = value_of_type(key % 8, rest)?;
+    Ok((Field { number, place, value }, rest))
+}
+
+/// Reads all of the bytes as fields, in their order.
+///
+/// Values are not copied: each slice is that part of `bytes`. Any spelling of a varint of up to
+/// ten bytes is read, and any number from 1 up. The room for the list is taken in doubling steps.
+///
+/// # Errors
+///
+/// The first field at fault is told by the place of its key (`Truncated`, `LongVarint`,
+/// `BadType`), and `OutOfMemory` where there is no memory for the list.
+pub fn read_fields(alloc: Global, bytes: &[u8]) -> Result<Vec<Field<'_>>, WireFault>
+    // What is read is what the bytes are.
+    ensures fields { IfOk result (λ read. IsFields bytes.now (fields_of read.items)) }
+    ensures places { IfOk result (λ read. BeginAt bytes.now (fields_of read.items) (places_of read.items)) }
+    // Bytes that are fields are read, unless memory runs out.
+    ensures read { (fields : List WireField) → IsFields bytes.now fields
+        → MatchResult result (λ read. fields_of read.items ≡ fields) (λ fault. fault ≡ WireFault.OutOfMemory) }
+
+    // A fault that is told stands, and is the first one.
+    ensures truncated { (place : ℕ) → IsErrOf result (WireFault.Truncated place)
+        → IsFirstFault IsTruncated bytes.now place }
+    ensures long_varint { (place : ℕ) → IsErrOf result (WireFault.LongVarint place)
+        → IsFirstFault HasLongVarint bytes.now place }
+    ensures bad_type { (place : ℕ) → IsErrOf result (WireFault.BadType place)
+        → IsFirstFault HasBadType bytes.now place }
+
+    // The first fault is told, unless memory runs out.
+    ensures tells_truncated { (place : ℕ) → IsFirstFault IsTruncated bytes.now place
+        → IsErrOf result (WireFault.Truncated place) ⊎ IsErrOf result WireFault.OutOfMemory }
+    ensures tells_long_varint { (place : ℕ) → IsFirstFault HasLongVarint bytes.now place
+        → IsErrOf result (WireFault.LongVarint place) ⊎ IsErrOf result WireFault.OutOfMemory }
+    ensures tells_bad_type { (place : ℕ) → IsFirstFault HasBadType bytes.now place
+        → IsErrOf result (WireFault.BadType place) ⊎ IsErrOf result WireFault.OutOfMemory }
+{
+    let mut fields = Vec::new(alloc);
+    let mut rest = bytes;
+    while !rest.is_empty() {
+        let place = bytes.len() - rest.len();
+        match field_at_front(rest, place) {
+            Ok((field, behind)) => {
+                fields.push(field)?;
+                rest = behind;
+            }
+            Err(fault) => return Err(fault.at(place)),
+        }
+    }
+    Ok(fields)
+}
