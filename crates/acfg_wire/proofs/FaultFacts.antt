@@ -1,13 +1,12 @@
 -- A fault as a relation and as what is read: each says the other.
-use Rattle.std.proofs.Common.{◌≡◌, ℕ, zero, suc, ◌+◌, ◌*◌, ◌/◌, ◌%◌, ◌<◌, ◌≤◌, ◌⊎◌, Bool, true, false, cond, ltb, eqb, List, [], ◌∷◌, ◌++◌, length, take, drop, Result, Ok, Err, refl, sym, ap, subst, ◌∙◌, arith, inl, inr}
+use Rattle.std.proofs.Common.{◌≡◌, ℕ, ◌+◌, ◌*◌, ◌/◌, ◌%◌, ◌<◌, ◌⊎◌, Bool, true, false, cond, eqb, List, length, Err, refl, sym, subst, ◌∙◌, arith, inl, inr}
 use Rattle.std.proofs.lemmas.Bool.{lt-ltb, eqb-true, eqb-false, cases_eq}
 use Rattle.acfg_wire.specs.declared.fault.Fault.{Fault}
 use Rattle.acfg_wire.specs.declared.fault.Fault.TheVariants.{Truncated, LongVarint, BadType}
-use Rattle.acfg_wire.specs.Varint.{IsVarint}
 use Rattle.acfg_wire.specs.Fields.{Value, varint, eight, delimited, four, WireField}
 use Rattle.acfg_wire.specs.Faults.{HasKey, IsTooShort, IsTruncated, in_key, in_varint, in_eight, in_length, in_bytes, in_four, HasLongVarint, as_key, as_varint, as_length, IsBadTypeNumber, HasBadType}
 use Rattle.acfg_wire.specs.Reading.{◌>>=◌, varint_at, front_at, value_at, field_at}
-use Rattle.acfg_wire.proofs.VarintFacts.{IsBytes, found, bind_err, judged, varint_again, varint_takes, ends_again, long_again, varint_ends, varint_long, varint_typeless}
+use Rattle.acfg_wire.proofs.VarintFacts.{AreBytes, found, bind_err, judged, varint_again, varint_takes, ends_again, long_again, varint_ends, varint_long, varint_typeless}
 use Rattle.acfg_wire.proofs.FieldFacts as fields
 
 -- a fault of the field that begins here, as a relation
@@ -122,7 +121,7 @@ bad_number type below a b c d =
       ]
     ]
 
-value_faults : (bytes behind : List ℕ) (type : ℕ) (k : Fault) → HasKey bytes type behind → IsBytes behind → type < 8 → value_at type behind ≡ Err k → FieldFault k bytes
+value_faults : (bytes behind : List ℕ) (type : ℕ) (k : Fault) → HasKey bytes type behind → AreBytes behind → type < 8 → value_at type behind ≡ Err k → FieldFault k bytes
 value_faults bytes behind type k key fits below e = at (fields.chosen type behind (Err k) e)
   where
     at : fields.IsChosen type behind (Err k) → FieldFault k bytes
@@ -175,7 +174,7 @@ value_faults bytes behind type k key fits below e = at (fields.chosen type behin
         })
 
 -- what is told of a field is wrong with it
-pub fault_takes : (k : Fault) (bytes : List ℕ) → IsBytes bytes → field_at bytes ≡ Err k → FieldFault k bytes
+pub fault_takes : (k : Fault) (bytes : List ℕ) → AreBytes bytes → field_at bytes ≡ Err k → FieldFault k bytes
 unfolding field_at
 fault_takes k bytes fits e =
     elim (bind_err (varint_at bytes) (λ key. cond (eqb (key.0 / 8) 0) (Err BadType) (value_at (key.0 % 8) key.1 >>= λ value. found {A = WireField × List ℕ} (record { number = key.0 / 8; value = value.0 }, value.1))) k e) [

@@ -1,14 +1,14 @@
 -- A field as a relation and as what is read: each says the other.
-use Rattle.std.proofs.Common.{◌≡◌, ℕ, zero, suc, ◌+◌, ◌-◌, ◌*◌, ◌/◌, ◌%◌, ◌^◌, ◌<◌, ◌≤◌, ◌⊎◌, Bool, true, false, cond, ltb, eqb, List, [], ◌∷◌, ◌++◌, length, get_or, take, drop, Result, Ok, Err, refl, sym, ap, subst, ◌∙◌, append_assoc, arith, inl, inr}
-use Rattle.std.proofs.lemmas.Bool.{ltb-false, ltb-true, le-ltb, lt-ltb, eqb-true, eqb-false, ne_eqb}
-use Rattle.std.proofs.lemmas.List.{take_at, drop_at, take-append-drop, length-append, length-take, get_or-drop, get_or_append_left, get_or-append-add}
+use Rattle.std.proofs.Common.{◌≡◌, ℕ, ◌+◌, ◌*◌, ◌/◌, ◌%◌, ◌<◌, ◌≤◌, false, cond, ltb, eqb, List, ◌++◌, length, take, drop, Result, Ok, Err, refl, sym, ap, subst, ◌∙◌, append_assoc, arith, inl, inr}
+use Rattle.std.proofs.lemmas.Bool.{ltb-false, ltb-true, le-ltb, eqb-true, eqb-false, ne_eqb}
+use Rattle.std.proofs.lemmas.List.{take_at, drop_at, take-append-drop, length-append, length-take, get_or-append-add}
 use Rattle.acfg_wire.specs.declared.fault.Fault.{Fault}
-use Rattle.acfg_wire.specs.declared.fault.Fault.TheVariants.{Truncated, LongVarint, BadType}
-use Rattle.acfg_wire.specs.Varint.{IsSpelling, IsVarint}
+use Rattle.acfg_wire.specs.declared.fault.Fault.TheVariants.{Truncated, BadType}
+use Rattle.acfg_wire.specs.Varint.{IsVarint}
 use Rattle.acfg_wire.specs.Fields.{Value, varint, eight, delimited, four, WireField, type_of, Holds, IsField}
 use Rattle.acfg_wire.specs.Faults.{HasKey}
 use Rattle.acfg_wire.specs.Reading.{◌>>=◌, varint_at, front_at, value_at, field_at}
-use Rattle.acfg_wire.proofs.VarintFacts.{IsBytes, found, same_found, bind_ok, bind_err, judged, varint_again, varint_takes}
+use Rattle.acfg_wire.proofs.VarintFacts.{AreBytes, same_found, bind_ok, judged, varint_again, varint_takes}
 
 -- ---- what is spelled is read
 
@@ -105,10 +105,10 @@ chosen type bs read e =
     ]
 
 -- bytes behind bytes
-pub IsBytes-front : (front rest : List ℕ) → IsBytes (front ++ rest) → IsBytes rest
-IsBytes-front front rest h i = rw (← get_or-append-add front rest i 0) (h (length front + i))
+pub AreBytes-front : (front rest : List ℕ) → AreBytes (front ++ rest) → AreBytes rest
+AreBytes-front front rest h i = rw (← get_or-append-add front rest i 0) (h (length front + i))
 
-pub value_takes : (type : ℕ) (bytes : List ℕ) (v : Value) (rest : List ℕ) → IsBytes bytes → value_at type bytes ≡ Ok (v, rest) → TakesValue type bytes v rest
+pub value_takes : (type : ℕ) (bytes : List ℕ) (v : Value) (rest : List ℕ) → AreBytes bytes → value_at type bytes ≡ Ok (v, rest) → TakesValue type bytes v rest
 value_takes type bytes v rest fits e = at (chosen type bytes (Ok (v, rest)) e)
   where
     at : IsChosen type bytes (Ok (v, rest)) → TakesValue type bytes v rest
@@ -152,16 +152,16 @@ pub record ReadsKey (bytes : List ℕ) (key : ℕ) (behind : List ℕ) (read : R
   pub text : List ℕ
   pub parts : bytes ≡ text ++ behind
   pub keyed : IsVarint text key
-  pub fits : IsBytes behind
+  pub fits : AreBytes behind
   pub then : cond (eqb (key / 8) 0) (Err BadType) (value_at (key % 8) behind >>= λ value. Ok (record { number = key / 8; value = value.0 }, value.1)) ≡ read
 
-pub reads_key : (bytes : List ℕ) (key : ℕ) (behind : List ℕ) (read : Result (WireField × List ℕ) Fault) → IsBytes bytes → varint_at bytes ≡ Ok (key, behind)
+pub reads_key : (bytes : List ℕ) (key : ℕ) (behind : List ℕ) (read : Result (WireField × List ℕ) Fault) → AreBytes bytes → varint_at bytes ≡ Ok (key, behind)
     → cond (eqb (key / 8) 0) (Err BadType) (value_at (key % 8) behind >>= λ value. Ok (record { number = key / 8; value = value.0 }, value.1)) ≡ read → ReadsKey bytes key behind read
 reads_key bytes key behind read fits e next =
     let text = varint_takes bytes key behind fits e in
-    record { text = text.0; parts = text.1; keyed = text.2; fits = IsBytes-front text.0 behind (rw text.1 at fits); then = next }
+    record { text = text.0; parts = text.1; keyed = text.2; fits = AreBytes-front text.0 behind (rw text.1 at fits); then = next }
 
-pub field_takes : (bytes : List ℕ) (f : WireField) (rest : List ℕ) → IsBytes bytes → field_at bytes ≡ Ok (f, rest) → TakesField bytes f rest
+pub field_takes : (bytes : List ℕ) (f : WireField) (rest : List ℕ) → AreBytes bytes → field_at bytes ≡ Ok (f, rest) → TakesField bytes f rest
 unfolding field_at
 field_takes bytes f rest fits e =
     let key = bind_ok (varint_at bytes) (λ key. cond (eqb (key.0 / 8) 0) (Err BadType) (value_at (key.0 % 8) key.1 >>= λ value. Ok (record { number = key.0 / 8; value = value.0 }, value.1))) (f, rest) e in

@@ -1,5 +1,5 @@
 -- Fields joined behind one another.
-use Rattle.std.proofs.Common.{◌≡◌, ℕ, ◌+◌, ◌<◌, ◌≤◌, List, [], ◌∷◌, ◌++◌, length, get_or, take, drop, refl, sym, ap, ◌∙◌, append_assoc, arith, inl, inr}
+use Rattle.std.proofs.Common.{◌≡◌, ℕ, ◌<◌, ◌≤◌, List, [], ◌∷◌, ◌++◌, length, get_or, take, drop, refl, sym, ap, ◌∙◌, append_assoc, arith, inl, inr}
 use Rattle.std.proofs.lemmas.Bool.{cases_lt}
 use Rattle.std.proofs.lemmas.List.{append-nil, length-append, get_or_append_left, get_or_push, take_at, drop_at, take-append-le, drop-append-le}
 use Rattle.acfg_wire.specs.Varint.{IsSpelling}
@@ -13,7 +13,7 @@ IsFields-append a b (f ∷ fs) gs (text, (rest, parts, field, fields)) g =
 pub one_field : (text : List ℕ) (f : WireField) → IsField text f → IsFields text (f ∷ [])
 one_field text f h = (text, ([], sym (append-nil text), h, refl))
 
-spelling_long : (bytes : List ℕ) (n : ℕ) → IsSpelling bytes n → 1 ≤ length bytes
+pub spelling_long : (bytes : List ℕ) (n : ℕ) → IsSpelling bytes n → 1 ≤ length bytes
 spelling_long [] n h = absurd h
 spelling_long (b ∷ bs) n h = omega arith
 
@@ -56,7 +56,7 @@ module _ (a text : List ℕ) (fs : List WireField) (f : WireField) (ps : List �
         | inl old ↦
             let here = begin.within i old in
             rw (old_place i old, drop-append-le (get_or ps i 0) a text (omega arith), drop-append-le i fs (f ∷ []) (omega arith))
-                (IsFields-append (drop (get_or ps i 0) a) text (drop i fs) (f ∷ []) (begin.onward i old) (one_field text f field))
+            (IsFields-append (drop (get_or ps i 0) a) text (drop i fs) (f ∷ []) (begin.onward i old) (one_field text f field))
         | inr new ↦
             let is = last_one i lt new in
             rw (new_place i is, drop_at a text (length a) refl, drop_at fs (f ∷ []) i (sym is)) (one_field text f field)

@@ -4,6 +4,7 @@ pub mod FieldFacts
 pub mod FaultFacts
 pub mod Once
 pub mod Joined
+pub mod Ends
 pub mod Answer
 pub mod Outcomes
 pub mod Put

@@ -1,5 +1,5 @@
 -- Bytes are read in one way alone.
-use Rattle.std.proofs.Common.{◌≡◌, ℕ, ◌<◌, ◌≤◌, List, [], ◌∷◌, ◌++◌, length, take, drop, Result, Ok, Err, refl, sym, ap, ◌∙◌, append_assoc, arith}
+use Rattle.std.proofs.Common.{◌≡◌, ℕ, List, [], ◌∷◌, ◌++◌, length, take, drop, Err, refl, sym, ap, ◌∙◌, append_assoc, arith}
 use Rattle.std.proofs.lemmas.List.{append-nil, append_cancel_right, take-append-drop, length-take, length-drop}
 use Rattle.acfg_wire.specs.declared.fault.Fault.{Fault}
 use Rattle.acfg_wire.specs.declared.fault.Fault.TheVariants.{Truncated}

@@ -1,5 +1,5 @@
 -- What bytes are: some outcome, one alone, and the same behind other fields.
-use Rattle.std.proofs.Common.{◌≡◌, ℕ, zero, suc, ◌+◌, ◌<◌, ◌≤◌, List, [], ◌∷◌, ◌++◌, length, get_or, take, drop, Result, Ok, Err, refl, sym, ap, subst, arith}
+use Rattle.std.proofs.Common.{◌≡◌, ℕ, zero, suc, ◌+◌, ◌<◌, ◌≤◌, List, [], ◌∷◌, ◌++◌, length, get_or, take, Result, Ok, Err, refl, sym, ap, subst, arith}
 use Rattle.std.proofs.Math.Seq.{take-append-add, drop-append-add}
 use Rattle.std.proofs.lemmas.List.{length-append}
 use Rattle.acfg_wire.specs.declared.fault.Fault.{Fault}
@@ -10,8 +10,8 @@ use Rattle.acfg_wire.specs.Fields.{WireField, IsFields}
 use Rattle.acfg_wire.specs.Faults.{IsFirstFault}
 use Rattle.acfg_wire.specs.Outcome.{IsOutcome, behind}
 use Rattle.acfg_wire.specs.Reading.{field_at, fault_at}
-use Rattle.acfg_wire.proofs.VarintFacts.{IsBytes}
-use Rattle.acfg_wire.proofs.FieldFacts.{IsBytes-front, field_takes}
+use Rattle.acfg_wire.proofs.VarintFacts.{AreBytes}
+use Rattle.acfg_wire.proofs.FieldFacts.{AreBytes-front, field_takes}
 use Rattle.acfg_wire.proofs.FaultFacts.{FieldFault, fault_takes}
 use Rattle.acfg_wire.proofs.Once.{fields_once, fields_or_fault, fault_once}
 use Rattle.acfg_wire.proofs.Joined.{IsFields-append, one_field, field_long}
@@ -65,16 +65,16 @@ fault_here bytes one.Truncated h = h
 fault_here bytes one.LongVarint h = h
 fault_here bytes one.BadType h = h
 
-some_within : (n : ℕ) (bytes : List ℕ) → length bytes ≤ n → IsBytes bytes → (outcome : Result (List WireField) WireFault) × IsOutcome bytes outcome
+some_within : (n : ℕ) (bytes : List ℕ) → length bytes ≤ n → AreBytes bytes → (outcome : Result (List WireField) WireFault) × IsOutcome bytes outcome
 some_within n [] short fits = (Ok [], refl)
 some_within zero (b ∷ bs) short fits = absurd (omega arith)
 some_within (suc n) (b ∷ bs) short fits = at (λ rest shorter rest_fits. some_within n rest shorter rest_fits) (field_at (b ∷ bs)) refl
   where
-    at : ((rest : List ℕ) → length rest ≤ n → IsBytes rest → (outcome : Result (List WireField) WireFault) × IsOutcome rest outcome) → (read : Result (WireField × List ℕ) Fault) → field_at (b ∷ bs) ≡ read → (outcome : Result (List WireField) WireFault) × IsOutcome (b ∷ bs) outcome
+    at : ((rest : List ℕ) → length rest ≤ n → AreBytes rest → (outcome : Result (List WireField) WireFault) × IsOutcome rest outcome) → (read : Result (WireField × List ℕ) Fault) → field_at (b ∷ bs) ≡ read → (outcome : Result (List WireField) WireFault) × IsOutcome (b ∷ bs) outcome
     at onward (Ok (f, rest)) e =
         let t = field_takes (b ∷ bs) f rest fits e in
         let shorter : length rest ≤ n = omega (arith, field_long t.text f t.is, ap length t.parts, length-append t.text rest) in
-        let after = onward rest shorter (IsBytes-front t.text rest (rw t.parts at fits)) in
+        let after = onward rest shorter (AreBytes-front t.text rest (rw t.parts at fits)) in
         (behind (f ∷ []) (length t.text) after.0, subst (λ (w : List ℕ). IsOutcome w (behind (f ∷ []) (length t.text) after.0)) (sym t.parts) (outcome_behind t.text rest (f ∷ []) after.0 (one_field t.text f t.is) after.1))
     at onward (Err kind) e = (Err (fault_at kind 0), fault_here (b ∷ bs) kind (record { fields = []; before = refl; within = omega arith; fault = fault_takes kind (b ∷ bs) fits e }))
 

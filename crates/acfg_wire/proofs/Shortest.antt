@@ -1,10 +1,9 @@
 -- The shortest spelling of a number, and the fields that are made of it.
-use Rattle.std.proofs.Common.{◌≡◌, ℕ, zero, suc, ◌+◌, ◌*◌, ◌/◌, ◌%◌, ◌^◌, ◌<◌, ◌≤◌, Bool, true, false, cond, ltb, List, [], ◌∷◌, ◌++◌, length, refl, add-zero, arith, inl, inr}
+use Rattle.std.proofs.Common.{◌≡◌, ℕ, zero, suc, ◌+◌, ◌*◌, ◌/◌, ◌%◌, ◌^◌, ◌<◌, ◌≤◌, List, [], ◌∷◌, ◌++◌, length, refl, add-zero, arith, inl, inr}
 use Rattle.std.proofs.lemmas.Bool.{cases_lt, lt-ltb, le-ltb}
 use Rattle.std.proofs.lemmas.Nat.{shr_below}
-use Rattle.acfg_wire.specs.declared.field.TheConstants.{MAX_FIELD_NUMBER}
 use Rattle.acfg_wire.specs.Varint.{IsSpelling, IsVarint, shortest_within, shortest}
-use Rattle.acfg_wire.specs.Fields.{varint, delimited, WireField, IsField, IsFieldNumber, varint_field, bytes_field}
+use Rattle.acfg_wire.specs.Fields.{varint, delimited, IsField, IsFieldNumber, varint_field, bytes_field}
 
 within_last : (more n : ℕ) → n < 128 → shortest_within more n ≡ n ∷ []
 within_last zero n below = refl

@@ -1,6 +1,6 @@
 -- Varints as relations and as what is read: each says the other.
-use Rattle.std.proofs.Common.{◌≡◌, ℕ, zero, suc, ◌+◌, ◌-◌, ◌*◌, ◌^◌, ◌<◌, ◌≤◌, ◌⊎◌, Bool, true, false, cond, ltb, List, [], ◌∷◌, ◌++◌, length, get_or, Result, Ok, Err, refl, sym, ap, subst, ◌∙◌, arith, inl, inr}
-use Rattle.std.proofs.lemmas.Bool.{ltb-false, ltb-true, le-ltb, lt-ltb, cases_lt}
+use Rattle.std.proofs.Common.{◌≡◌, ℕ, zero, suc, ◌+◌, ◌-◌, ◌*◌, ◌^◌, ◌<◌, ◌≤◌, ◌⊎◌, Bool, true, false, cond, ltb, List, [], ◌∷◌, ◌++◌, length, get_or, Result, Ok, Err, refl, sym, ap, subst, arith, inl, inr}
+use Rattle.std.proofs.lemmas.Bool.{ltb-false, ltb-true}
 use Rattle.std.proofs.lemmas.Nat.{pow-add, pow_pos}
 use Rattle.acfg_wire.specs.declared.fault.Fault.{Fault}
 use Rattle.acfg_wire.specs.declared.fault.Fault.TheVariants.{Truncated, LongVarint, BadType}
@@ -8,8 +8,8 @@ use Rattle.acfg_wire.specs.Varint.{IsSpelling, IsVarint, EndsWithinVarint, IsLon
 use Rattle.acfg_wire.specs.Reading.{◌>>=◌, varint_within, varint_at}
 use Rattle.acfg_wire.proofs.VarintLoop.{last_byte, next_byte, over_byte}
 
-abbrev pub IsBytes : List ℕ → Type 0
-IsBytes bytes = (i : ℕ) → get_or bytes i 0 < 256
+abbrev pub AreBytes : List ℕ → Type 0
+AreBytes bytes = (i : ℕ) → get_or bytes i 0 < 256
 
 -- seven bits more
 wider : (m : ℕ) → 2 ^ (7 * suc m + 1) ≡ 2 ^ (7 * m + 1) * 128
@@ -98,8 +98,8 @@ pub judged : {A : Type 0} (b : Bool) (x y z : A) → cond b x y ≡ z → ((b �
 judged true x y z e = inl (refl, e)
 judged false x y z e = inr (refl, e)
 
-IsBytes-rest : (b : ℕ) (bytes : List ℕ) → IsBytes (b ∷ bytes) → IsBytes bytes
-IsBytes-rest b bytes h i = h (suc i)
+AreBytes-rest : (b : ℕ) (bytes : List ℕ) → AreBytes (b ∷ bytes) → AreBytes bytes
+AreBytes-rest b bytes h i = h (suc i)
 
 abbrev pub found : {A : Type 0} → A → Result A Fault
 found x = Ok x
@@ -107,7 +107,7 @@ found x = Ok x
 pub same_found : {A : Type 0} (x y : A) → found x ≡ found y → x ≡ y
 same_found x y e = cc
 
-spelled_takes : (more : ℕ) (bytes : List ℕ) (n : ℕ) (rest : List ℕ) → IsBytes bytes → varint_within more bytes ≡ Ok (n, rest) → BeginsWith more bytes n rest
+spelled_takes : (more : ℕ) (bytes : List ℕ) (n : ℕ) (rest : List ℕ) → AreBytes bytes → varint_within more bytes ≡ Ok (n, rest) → BeginsWith more bytes n rest
 spelled_takes more [] n rest fits e = absurd cc
 spelled_takes zero (b ∷ bs) n rest fits e =
     elim (judged (ltb 1 b) (Err LongVarint) (Ok (b, bs)) (Ok (n, rest)) e) [
@@ -126,7 +126,7 @@ spelled_takes (suc more) (b ∷ bs) n rest fits e =
       | inr on ↦
           let above : 128 ≤ b = ltb-false b 128 on.0 in
           let high = bind_ok (varint_within more bs) (λ high. Ok (b - 128 + 128 * high.0, high.1)) (n, rest) on.1 in
-          let back = spelled_takes more bs high.0.0 high.0.1 (IsBytes-rest b bs fits) high.1 in
+          let back = spelled_takes more bs high.0.0 high.0.1 (AreBytes-rest b bs fits) high.1 in
           let made : ℕ × List ℕ = (b - 128 + 128 * high.0.0, high.0.1) in
           subst (λ (x : ℕ × List ℕ). BeginsWith (suc more) (b ∷ bs) x.0 x.1) (same_found made (n, rest) high.2) (begins_more more b bs high.0.0 high.0.1 (fits 0) above back)
     ]
@@ -134,7 +134,7 @@ spelled_takes (suc more) (b ∷ bs) n rest fits e =
     wide_enough : b < 128 → b < 2 ^ (7 * suc more + 1)
     wide_enough below = let some : 1 ≤ 2 ^ (7 * more + 1) = pow_pos (7 * more + 1) in omega (arith, wider more)
 
-pub varint_takes : (bytes : List ℕ) (n : ℕ) (rest : List ℕ) → IsBytes bytes → varint_at bytes ≡ Ok (n, rest) → (text : List ℕ) × (bytes ≡ text ++ rest) × IsVarint text n
+pub varint_takes : (bytes : List ℕ) (n : ℕ) (rest : List ℕ) → AreBytes bytes → varint_at bytes ≡ Ok (n, rest) → (text : List ℕ) × (bytes ≡ text ++ rest) × IsVarint text n
 unfolding varint_at
 varint_takes bytes n rest fits e =
     let h = spelled_takes 9 bytes n rest fits e in

@@ -1,12 +1,12 @@
 -- A varint as the loop reads it: the low groups so far, and what the rest gives.
-use Rattle.std.proofs.Common.{◌≡◌, ℕ, zero, suc, ◌+◌, ◌-◌, ◌*◌, ◌%◌, ◌^◌, ◌<◌, ◌≤◌, List, [], ◌∷◌, drop, get_or, length, Result, Ok, Err, refl, sym, ap, ◌∙◌, arith, inl, inr, cond, ltb}
+use Rattle.std.proofs.Common.{◌≡◌, ℕ, zero, suc, ◌+◌, ◌-◌, ◌*◌, ◌%◌, ◌^◌, ◌<◌, ◌≤◌, List, ◌∷◌, drop, get_or, length, Result, Ok, Err, refl, sym, ap, ◌∙◌, arith, inl, inr}
 use Rattle.std.specs.Prelude.{bit_and, bit_or}
 use Rattle.std.proofs.lemmas.Nat.{or_comm, or_shifted, and_mask, shl_whole, pow-add, mul-le}
 use Rattle.std.proofs.lemmas.List.{drop_more}
-use Rattle.std.proofs.lemmas.Bool.{ltb-false, le-ltb, lt-ltb, cases_lt}
+use Rattle.std.proofs.lemmas.Bool.{le-ltb, lt-ltb, cases_lt}
 use Rattle.acfg_wire.specs.declared.fault.Fault.{Fault}
-use Rattle.acfg_wire.specs.declared.fault.Fault.TheVariants.{Truncated, LongVarint}
-use Rattle.acfg_wire.specs.Reading.{◌>>=◌, varint_within, varint_at}
+use Rattle.acfg_wire.specs.declared.fault.Fault.TheVariants.{LongVarint}
+use Rattle.acfg_wire.specs.Reading.{◌>>=◌, varint_within}
 
 -- the number so far is low, and scale times what the rest gives comes to it
 abbrev pub with_low : ℕ → ℕ → Result (ℕ × List ℕ) Fault → Result (ℕ × List ℕ) Fault

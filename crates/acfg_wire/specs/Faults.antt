@@ -1,5 +1,6 @@
--- What is wrong with bytes that are no fields, and where.
-use Rattle.std.specs.Prelude.{◌≡◌, ℕ, ◌+◌, ◌*◌, ◌<◌, ◌≤◌, ◌⊎◌, List, [], ◌++◌, length, take, drop}
+-- What is wrong with bytes that are no fields, and where. The encoding guide names no faults: these three, and that
+-- within a field the key comes first, then its type and number, then the value, are the rule of this project.
+use Rattle.std.specs.Prelude.{◌≡◌, ℕ, ◌+◌, ◌*◌, ◌<◌, ◌≤◌, ◌⊎◌, List, ◌++◌, length, take, drop}
 use Rattle.acfg_wire.specs.Varint.{IsVarint, EndsWithinVarint, IsLongVarint}
 use Rattle.acfg_wire.specs.Fields.{WireField, IsFields}
 
@@ -50,8 +51,8 @@ pub record HasBadType (bytes : List ℕ) : Type 0 where
   pub below : type < 8
   pub refused : (number ≡ 0) ⊎ IsBadTypeNumber type
 
--- The first field at fault begins at this place: the bytes before it are whole fields, and what begins there, if
--- only one byte of it, is at fault in this way.
+-- The first fault is at this place: the bytes before it are whole fields, and what begins there, a byte of it at
+-- least, is at fault in this way.
 pub record IsFirstFault (IsFault : List ℕ → Type 0) (bytes : List ℕ) (place : ℕ) : Type 0 where
   pub fields : List WireField
   pub before : IsFields (take place bytes) fields

@@ -1,5 +1,5 @@
 -- Fields: Protocol Buffers, "Encoding", section "Message Structure".
-use Rattle.std.specs.Prelude.{◌≡◌, ℕ, ◌+◌, ◌-◌, ◌*◌, ◌<◌, ◌≤◌, List, [], ◌∷◌, ◌++◌, length, map, take, drop, slice_index, slice_index_or}
+use Rattle.std.specs.Prelude.{◌≡◌, ℕ, ◌+◌, ◌-◌, ◌*◌, ◌<◌, ◌≤◌, List, [], ◌∷◌, ◌++◌, length, map, take, drop, slice_index, slice_index_or, slice_get, slice_range, Some}
 use Rattle.acfg_wire.specs.declared.field.Field.{Field}
 use Rattle.acfg_wire.specs.declared.field.FieldValue.{FieldValue}
 use Rattle.acfg_wire.specs.declared.field.FieldValue.TheVariants as rust
@@ -53,6 +53,28 @@ pub record BeginAt (bytes : List ℕ) (fields : List WireField) (places : List �
   pub within : (i : ℕ) → i < length fields → slice_index places i < length bytes
   pub before : (i : ℕ) → i < length fields → IsFields (take (slice_index places i) bytes) (take i fields)
   pub onward : (i : ℕ) → i < length fields → IsFields (drop (slice_index places i) bytes) (drop i fields)
+
+-- the bytes of a value that has bytes of its own
+abbrev pub content_of : Value → List ℕ
+content_of (varint n) = []
+content_of (eight content) = content
+content_of (delimited content) = content
+content_of (four content) = content
+
+-- where a field ends: where the next one begins, or where the bytes end
+abbrev pub end_of : List ℕ → List ℕ → ℕ → ℕ
+end_of bytes places i = slice_index_or places (i + 1) (length bytes)
+
+-- from `place` to `end` a key stands first, and these bytes last
+pub record LiesAtEnd (bytes : List ℕ) (place end : ℕ) (content : List ℕ) : Type 0 where
+  pub behind : place + length content < end
+  pub there : slice_range bytes (end - length content) end ≡ content
+
+-- each value's bytes are the last ones of its field
+abbrev pub ValuesLieIn : List ℕ → List WireField → List ℕ → Type 0
+ValuesLieIn bytes fields places =
+    (i : ℕ) (f : WireField) → slice_get fields i ≡ Some f
+    → LiesAtEnd bytes (slice_index places i) (end_of bytes places i) (content_of f.value)
 
 -- a value as the code has it, by what its slice holds
 abbrev pub value_of : FieldValue → Value

@@ -1,4 +1,5 @@
--- One field read from left to right, with the first fault that is met: what the private readers compute.
+-- What the private readers compute of the bytes at the front. No public contract cites it: `Fields` and `Faults`
+-- say what it has to be.
 use Rattle.std.specs.Prelude.{◌≡◌, ℕ, zero, suc, ◌+◌, ◌-◌, ◌*◌, ◌/◌, ◌%◌, List, [], ◌∷◌, length, take, drop, Result, Ok, Err, nat_lt, ◌==◌, if◌then◌else◌}
 use Rattle.acfg_wire.specs.declared.fault.Fault.{Fault}
 use Rattle.acfg_wire.specs.declared.fault.Fault.TheVariants.{Truncated, LongVarint, BadType}
@@ -6,15 +7,16 @@ use Rattle.acfg_wire.specs.declared.fault.WireFault.{WireFault}
 use Rattle.acfg_wire.specs.declared.fault.WireFault.TheVariants as whole
 use Rattle.acfg_wire.specs.Fields.{Value, varint, eight, delimited, four, WireField}
 
+-- the next step, where this one was no fault
 infixl 10 ◌>>=◌
 abbrev pub ◌>>=◌ : {A B : Type 0} → Result A Fault → (A → Result B Fault) → Result B Fault
 (Ok x) >>= f = f x
 (Err e) >>= f = Err e
 
--- what a function returned, seen by view, is what reading gives
-abbrev pub Gives : {X Y : Type 0} → (X → Y) → Result X Fault → Result Y Fault → Type 0
-Gives view (Ok x) read = read ≡ Ok (view x)
-Gives view (Err e) read = read ≡ Err e
+-- a reader's answer, with its values seen by view, is this one
+abbrev pub ReadsAs : {X Y : Type 0} → (X → Y) → Result X Fault → Result Y Fault → Type 0
+ReadsAs view (Ok x) read = read ≡ Ok (view x)
+ReadsAs view (Err e) read = read ≡ Err e
 
 -- a varint at the front, with at most this many bytes before the last, and the bytes behind it
 abbrev pub varint_within : ℕ → List ℕ → Result (ℕ × List ℕ) Fault

@@ -31,6 +31,7 @@ pub enum WireFault {
 
 impl<T: Drop> From<AllocFailed<T>> for WireFault {
     ghost use Rattle.acfg_wire.specs.declared.fault.WireFault.TheVariants.{OutOfMemory};
+
     ghost from_gives = { λ _ e. e ≡ OutOfMemory };
 
     fn from(_e: AllocFailed<T>) -> WireFault {

@@ -3,6 +3,15 @@
 /// The greatest number that a field may be written with. A greater one is read.
 pub const MAX_FIELD_NUMBER: u64 = 536_870_911;
 
+/// The wire types of a key; groups, 3 and 4, have none here.
+pub(crate) const VARINT: u64 = 0;
+
+pub(crate) const EIGHT: u64 = 1;
+
+pub(crate) const BYTES: u64 = 2;
+
+pub(crate) const FOUR: u64 = 5;
+
 /// A field: its number, where it begins, and its value.
 #[derive(Clone, Copy, Debug, PartialEq, Eq)]
 pub struct Field<'a> {

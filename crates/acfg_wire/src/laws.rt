@@ -13,8 +13,7 @@ pub fn one_outcome()
         → (outcome : Result (List WireField) WireFault) × IsOutcome bytes outcome }
     ensures one { (bytes : List ℕ) (a b : Result (List WireField) WireFault)
         → IsOutcome bytes a → IsOutcome bytes b → a ≡ b }
-{
-}
+{}
 
 /// Fields stay what they are, whatever stands behind them: the fields behind follow them, and a
 /// fault behind them comes that much later.
@@ -22,8 +21,7 @@ pub fn fields_join()
     ensures { (front rest : List ℕ) (fields : List WireField) (outcome : Result (List WireField) WireFault)
         → IsFields front fields → IsOutcome rest outcome
         → IsOutcome (front ++ rest) (behind fields (length front) outcome) }
-{
-}
+{}
 
 /// What `put_varint` and `put_bytes` append is the one field that was put. It is read again,
 /// whatever stands before it and behind it, by `fields_join`.
@@ -35,15 +33,13 @@ pub fn put_is_read()
     ensures again { (text rest : List ℕ) (f : WireField) (outcome : Result (List WireField) WireFault)
         → IsField text f → IsOutcome rest outcome
         → IsOutcome (text ++ rest) (behind (f ∷ []) (length text) outcome) }
-{
-}
+{}
 
-/// The shortest spelling of a number is one of its spellings, and none is as short.
+/// The shortest spelling of a number is one of its spellings, and every other one is longer.
 pub fn shortest_is_least()
     ensures spells { (n : ℕ) → n < 2 ^ 64 → IsVarint (shortest n) n }
     ensures least { (n : ℕ) (bytes : List ℕ) → n < 2 ^ 64 → IsSpelling bytes n
         → length (shortest n) ≤ length bytes }
     ensures only { (n : ℕ) (bytes : List ℕ) → n < 2 ^ 64 → IsSpelling bytes n
         → length bytes ≡ length (shortest n) → bytes ≡ shortest n }
-{
-}
+{}

@@ -1,12 +1,12 @@
 //! Bytes read as a list of fields.
 
 ghost use Rattle.std.specs.Prelude.{◌≡◌, ◌⊎◌, ℕ, List, IfOk, MatchResult, IsErrOf};
-ghost use Rattle.acfg_wire.specs.Fields.{WireField, IsFields, BeginAt, value_of, field_of, fields_of, places_of};
+ghost use Rattle.acfg_wire.specs.Fields.{WireField, IsFields, BeginAt, ValuesLieIn, value_of, field_of, fields_of, places_of};
 ghost use Rattle.acfg_wire.specs.Faults.{IsFirstFault, IsTruncated, HasLongVarint, HasBadType};
-ghost use Rattle.acfg_wire.specs.Reading.{Gives, varint_at, front_at, value_at, field_at};
+ghost use Rattle.acfg_wire.specs.Reading.{ReadsAs, varint_at, front_at, value_at, field_at};
 
 use crate::fault::{Fault, WireFault};
-use crate::field::{Field, FieldValue};
+use crate::field::{BYTES, EIGHT, FOUR, Field, FieldValue, VARINT};
 use std::alloc::Global;
 
 /// The place of a varint's tenth byte, which holds the last of 64 bits.
@@ -14,7 +14,7 @@ const TENTH: usize = 9;
 
 /// Reads the varint at the front, and gives the bytes behind it.
 fn varint_of(bytes: &[u8]) -> Result<(u64, &[u8]), Fault>
-    ensures { Gives (λ read. (read.0, read.1.now)) result (varint_at bytes.now) }
+    ensures { ReadsAs (λ read. (read.0, read.1.now)) result (varint_at bytes.now) }
 {
     let mut value = 0;
     for (i, byte) in bytes.iter().enumerate() {
@@ -32,7 +32,7 @@ fn varint_of(bytes: &[u8]) -> Result<(u64, &[u8]), Fault>
 
 /// Takes so many bytes from the front, and gives those behind them.
 fn front_of(bytes: &[u8], count: u64) -> Result<(&[u8], &[u8]), Fault>
-    ensures { Gives (λ read. (read.0.now, read.1.now)) result (front_at count bytes.now) }
+    ensures { ReadsAs (λ read. (read.0.now, read.1.now)) result (front_at count bytes.now) }
 {
     bytes
         .split_at_checked(count as usize)
@@ -41,24 +41,24 @@ fn front_of(bytes: &[u8], count: u64) -> Result<(&[u8], &[u8]), Fault>
 
 /// Reads the value of a field of this wire type.
 #[tactic(auto, unfolding(crate::specs::Reading::value_at))]
-fn value_of_type(kind: u64, bytes: &[u8]) -> Result<(FieldValue<'_>, &[u8]), Fault>
-    ensures { Gives (λ read. (value_of read.0, read.1.now)) result (value_at kind bytes.now) }
+fn value_of_type(wire_type: u64, bytes: &[u8]) -> Result<(FieldValue<'_>, &[u8]), Fault>
+    ensures { ReadsAs (λ read. (value_of read.0, read.1.now)) result (value_at wire_type bytes.now) }
 {
-    match kind {
-        0 => {
+    match wire_type {
+        VARINT => {
             let (value, rest) = varint_of(bytes)?;
             Ok((FieldValue::Varint(value), rest))
         }
-        1 => {
+        EIGHT => {
             let (content, rest) = front_of(bytes, 8)?;
             Ok((FieldValue::Eight(content), rest))
         }
-        2 => {
+        BYTES => {
             let (count, rest) = varint_of(bytes)?;
             let (content, rest) = front_of(rest, count)?;
             Ok((FieldValue::Bytes(content), rest))
         }
-        5 => {
+        FOUR => {
             let (content, rest) = front_of(bytes, 4)?;
             Ok((FieldValue::Four(content), rest))
         }
@@ -69,7 +69,7 @@ fn value_of_type(kind: u64, bytes: &[u8]) -> Result<(FieldValue<'_>, &[u8]), Fau
 /// Reads the field at the front, whose key is at `place`, and gives the bytes behind it.
 #[tactic(auto, unfolding(crate::specs::Reading::field_at))]
 fn field_at_front(bytes: &[u8], place: usize) -> Result<(Field<'_>, &[u8]), Fault>
-    ensures field { Gives (λ read. (field_of read.0, read.1.now)) result (field_at bytes.now) }
+    ensures field { ReadsAs (λ read. (field_of read.0, read.1.now)) result (field_at bytes.now) }
     ensures place { IfOk result (λ read. read.0.place ≡ place) }
 {
     let (key, rest) = varint_of(bytes)?;
@@ -78,7 +78,14 @@ fn field_at_front(bytes: &[u8], place: usize) -> Result<(Field<'_>, &[u8]), Faul
         return Err(Fault::BadType);
     }
     let (value, rest) = value_of_type(key % 8, rest)?;
-    Ok((Field { number, place, value }, rest))
+    Ok((
+        Field {
+            number,
+            place,
+            value,
+        },
+        rest,
+    ))
 }
 
 /// Reads all of the bytes as fields, in their order.
@@ -94,8 +101,9 @@ pub fn read_fields(alloc: Global, bytes: &[u8]) -> Result<Vec<Field<'_>>, WireFa
     // What is read is what the bytes are.
     ensures fields { IfOk result (λ read. IsFields bytes.now (fields_of read.items)) }
     ensures places { IfOk result (λ read. BeginAt bytes.now (fields_of read.items) (places_of read.items)) }
+    ensures values { IfOk result (λ read. ValuesLieIn bytes.now (fields_of read.items) (places_of read.items)) }
     // Bytes that are fields are read, unless memory runs out.
-    ensures read { (fields : List WireField) → IsFields bytes.now fields
+    ensures tells_fields { (fields : List WireField) → IsFields bytes.now fields
         → MatchResult result (λ read. fields_of read.items ≡ fields) (λ fault. fault ≡ WireFault.OutOfMemory) }
 
     // A fault that is told stands, and is the first one.

@@ -5,6 +5,7 @@ ghost use Rattle.acfg_wire.specs.Varint.{shortest};
 ghost use Rattle.acfg_wire.specs.Fields.{IsFieldNumber, varint_field, bytes_field};
 
 use crate::fault::OutOfMemory;
+use crate::field::{BYTES, VARINT};
 use std::alloc::Global;
 
 /// The most bytes of a varint of 64 bits.
@@ -43,7 +44,7 @@ pub fn put_varint(
     ensures err { OnErr result (out.new.items ≡ out.old.items) }
 {
     out.reserve(2 * MAX_VARINT)?;
-    push_varint(out, number * 8);
+    push_varint(out, number * 8 + VARINT);
     push_varint(out, value);
     Ok(())
 }
@@ -66,7 +67,7 @@ pub fn put_bytes(
     ensures err { OnErr result (out.new.items ≡ out.old.items) }
 {
     out.reserve(2 * MAX_VARINT + value.len())?;
-    push_varint(out, number * 8 + 2);
+    push_varint(out, number * 8 + BYTES);
     push_varint(out, value.len() as u64);
     out.extend_from_slice(value).unwrap();
     Ok(())

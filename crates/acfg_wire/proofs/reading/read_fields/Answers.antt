@@ -34,7 +34,8 @@ returns-in-Err c =
     record {
       fields = tt;
       places = tt;
-      read = read_again bytes result h;
+      values = tt;
+      tells_fields = read_again bytes result h;
       truncated = λ p e. told_is bytes result (Truncated p) h e;
       long_varint = λ p e. told_is bytes result (LongVarint p) h e;
       bad_type = λ p e. told_is bytes result (BadType p) h e;
@@ -51,7 +52,8 @@ returns c =
     record {
       fields = h.0;
       places = h.1;
-      read = read_again bytes result h;
+      values = h.2;
+      tells_fields = read_again bytes result h;
       truncated = λ p e. told_is bytes result (Truncated p) h e;
       long_varint = λ p e. told_is bytes result (LongVarint p) h e;
       bad_type = λ p e. told_is bytes result (BadType p) h e;

@@ -1,9 +1,7 @@
-use Rattle.std.proofs.Common.{◌≡◌, ℕ, ◌+◌, ◌-◌, ◌*◌, ◌%◌, ◌^◌, ◌<◌, ◌≤◌, get_or, refl, arith, inl, inr}
-use Rattle.std.specs.Prelude.{bit_or, bit_and}
-use Rattle.std.proofs.lemmas.List.{take_rest, drop_all}
-use Rattle.std.proofs.lemmas.Nat.{mul-le}
+use Rattle.std.proofs.Common.{◌≡◌, ◌+◌, ◌-◌, ◌*◌, ◌%◌, ◌^◌, ◌<◌, ◌≤◌, get_or, refl, arith, inl, inr}
+use Rattle.std.proofs.lemmas.List.{take_rest}
 use Rattle.acfg_wire.specs.Reading.{varint_at}
-use Rattle.acfg_wire.proofs.VarintLoop.{with_low, joined_at, ends_here, goes_on, scale_more, no_low, below_tenth, below_more_groups}
+use Rattle.acfg_wire.proofs.VarintLoop.{joined_at, ends_here, goes_on, scale_more, no_low, below_tenth, below_more_groups}
 use Rattle.acfg_wire.proofs.reading.varint_of.Goals as goal
 
 pub loop-i-init : goal.loop-i-init
