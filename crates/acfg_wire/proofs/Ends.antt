@@ -1,10 +1,18 @@
 -- Values lie at the ends of their fields, as fields are joined.
-use Rattle.std.proofs.Common.{◌≡◌, ℕ, ◌+◌, ◌-◌, ◌<◌, ◌≤◌, List, [], ◌∷◌, ◌++◌, length, get_or, drop, Some, sym, ap, ◌∙◌, append_assoc, arith, inl, inr}
+use Rattle.std.proofs.Common.{◌≡◌, ℕ, ◌+◌, ◌-◌, ◌<◌, ◌≤◌, List, [], ◌∷◌, ◌++◌, length, get_or, drop, Some, slice_get, sym, ap, ◌∙◌, append_assoc, arith, inl, inr}
+use Rattle.std.specs.Option.{option_map}
 use Rattle.std.proofs.lemmas.Bool.{cases_lt}
-use Rattle.std.proofs.lemmas.List.{append-nil, length-append, length-drop, get_or_append_left, get_or_push, get_or_past, get_or_default, drop_at, take_all, take-append-le, drop-append-le}
-use Rattle.std.proofs.lemmas.Option.{slice_get_within, get_or_from_slice_get, slice_get-get_or}
-use Rattle.acfg_wire.specs.Fields.{Value, varint, eight, delimited, four, WireField, IsField, Holds, BeginAt, content_of, end_of, LiesAtEnd, ValuesLieIn}
+use Rattle.std.proofs.lemmas.List.{append-nil, length-append, length-drop, get_or_append_left, get_or_push, get_or_past, get_or_default, get_or-map, drop_at, take_all, take-append-le, drop-append-le}
+use Rattle.std.proofs.lemmas.Option.{slice_get_within, get_or_from_slice_get, slice_get-get_or, slice_get-map}
+use Rattle.acfg_wire.specs.declared.field.Field.{Field}
+use Rattle.acfg_wire.specs.Fields.{Value, varint, eight, delimited, four, WireField, IsField, Holds, BeginAt, content_of, end_of, LiesAtEnd, ValuesLieIn, fields_of, places_of, field_of}
 use Rattle.acfg_wire.proofs.Joined.{spelling_long}
+
+-- each value's bytes are the last ones of its field
+abbrev pub ValuesLie : List ℕ → List WireField → List ℕ → Type 0
+ValuesLie bytes fields places =
+    (i : ℕ) (f : WireField) → slice_get fields i ≡ Some f
+    → LiesAtEnd bytes (get_or places i 0) (end_of bytes places i) (content_of f.value)
 
 -- a field's last bytes are its value's
 pub record EndsWith (text content : List ℕ) : Type 0 where
@@ -51,10 +59,10 @@ lies_last front text content h =
       there = rw back (take_all (length (front ++ text) - (length (front ++ text) - length content)) content (omega arith));
     }
 
-pub values_none : ValuesLieIn [] [] []
+pub values_none : ValuesLie [] [] []
 values_none i f e = absurd (let lt = slice_get_within [] i f e in omega arith)
 
-module _ (a text : List ℕ) (fs : List WireField) (f : WireField) (ps : List ℕ) (begin : BeginAt a fs ps) (lie : ValuesLieIn a fs ps) (field : IsField text f) where
+module _ (a text : List ℕ) (fs : List WireField) (f : WireField) (ps : List ℕ) (begin : BeginAt a fs ps) (lie : ValuesLie a fs ps) (field : IsField text f) where
   old_end : (i : ℕ) → i < length fs → end_of (a ++ text) (ps ++ length a ∷ []) i ≡ end_of a ps i
   old_end i lt =
       elim (cases_lt (i + 1) (length ps)) [
@@ -75,8 +83,8 @@ module _ (a text : List ℕ) (fs : List WireField) (f : WireField) (ps : List �
   new_end i is = get_or_past (ps ++ length a ∷ []) (i + 1) (length (a ++ text)) (omega (arith, begin.each, length-append ps (length a ∷ [])))
 
   -- one more field behind those that were read
-  pub ValuesLieIn-push : ValuesLieIn (a ++ text) (fs ++ f ∷ []) (ps ++ length a ∷ [])
-  ValuesLieIn-push i g e =
+  pub ValuesLie-push : ValuesLie (a ++ text) (fs ++ f ∷ []) (ps ++ length a ∷ [])
+  ValuesLie-push i g e =
       let within = slice_get_within (fs ++ f ∷ []) i g e in
       elim (cases_lt i (length fs)) [
         | inl old ↦
@@ -90,3 +98,11 @@ module _ (a text : List ℕ) (fs : List WireField) (f : WireField) (ps : List �
             let place : get_or (ps ++ length a ∷ []) i 0 ≡ length a = get_or_push ps (length a) 0 i (omega (arith, begin.each)) in
             rw (place, new_end i last) (lies_last a text (content_of g.value) (rw is at (field_ends text f field)))
       ]
+
+-- the same of the fields as the code has them
+pub values_lie_in : (bytes : List ℕ) (read : List Field) → ValuesLie bytes (fields_of read) (places_of read) → ValuesLieIn bytes read
+values_lie_in bytes read lie i f e =
+    let within = slice_get_within read i f e in
+    let here : slice_get (fields_of read) i ≡ Some (field_of f) = slice_get-map field_of read i ∙ ap (option_map field_of) e in
+    let place : get_or (places_of read) i 0 ≡ f.place = get_or-map (λ g. g.place) read i f 0 within ∙ ap (λ (g : Field). g.place) (get_or_from_slice_get read i f f e) in
+    rw place at (lie i (field_of f) here)

@@ -107,6 +107,16 @@ length_faults Truncated bytes behind key e = in_length behind key (varint_ends b
 length_faults LongVarint bytes behind key e = as_length behind key (varint_long behind e)
 length_faults BadType bytes behind key e = absurd (varint_typeless behind e)
 
+-- a value of so many bytes fails only where there are fewer
+front_faults : (bytes behind : List ℕ) (n : ℕ) (k : Fault) (made : List ℕ × List ℕ → Value × List ℕ) → (front_at n behind >>= λ content. found (made content)) ≡ Err k → (length behind < n → IsTruncated bytes) → FieldFault k bytes
+front_faults bytes behind n k made read truncated =
+    elim (bind_err (front_at n behind) (λ content. found (made content)) k read) [
+      | inl first ↦
+          let short = fields.front_short n behind k first in
+          subst (λ (j : Fault). FieldFault j bytes) (sym short.0) (truncated short.1)
+      | inr second ↦ let wrong = second.2 in absurd cc
+    ]
+
 -- a type that is none of those with values
 bad_number : (type : ℕ) → type < 8 → (type ≡ 0 → ⊥) → (type ≡ 1 → ⊥) → (type ≡ 2 → ⊥) → (type ≡ 5 → ⊥) → IsBadTypeNumber type
 bad_number type below a b c d =
@@ -133,12 +143,7 @@ value_faults bytes behind type k key fits below e = at (fields.chosen type behin
         ]
     at (fields.as_eight is read) =
         let key' : HasKey bytes 1 behind = rw is at key in
-        elim (bind_err (front_at 8 behind) (λ content. found {A = Value × List ℕ} (eight content.0, content.1)) k read) [
-          | inl first ↦
-              let short = fields.front_short 8 behind k first in
-              subst (λ (j : Fault). FieldFault j bytes) (sym short.0) (in_eight behind key' short.1)
-          | inr second ↦ let wrong = second.2 in absurd cc
-        ]
+        front_faults bytes behind 8 k (λ content. (eight content.0, content.1)) read (λ short. in_eight behind key' short)
     at (fields.as_delimited is read) =
         let key' : HasKey bytes 2 behind = rw is at key in
         elim (bind_err (varint_at behind) (λ n. front_at n.0 n.1 >>= λ content. found {A = Value × List ℕ} (delimited content.0, content.1)) k read) [
@@ -154,12 +159,7 @@ value_faults bytes behind type k key fits below e = at (fields.chosen type behin
         ]
     at (fields.as_four is read) =
         let key' : HasKey bytes 5 behind = rw is at key in
-        elim (bind_err (front_at 4 behind) (λ content. found {A = Value × List ℕ} (four content.0, content.1)) k read) [
-          | inl first ↦
-              let short = fields.front_short 4 behind k first in
-              subst (λ (j : Fault). FieldFault j bytes) (sym short.0) (in_four behind key' short.1)
-          | inr second ↦ let wrong = second.2 in absurd cc
-        ]
+        front_faults bytes behind 4 k (λ content. (four content.0, content.1)) read (λ short. in_four behind key' short)
     at (fields.as_none a b c d read) =
         let same : BadType ≡ k = cc in
         subst (λ (j : Fault). FieldFault j bytes) same (record {

@@ -60,10 +60,11 @@ one_outcome bytes (Err v) (Err w) h g =
 
 -- ---- some
 
-fault_here : (bytes : List ℕ) (kind : Fault) → IsFirstFault (FieldFault kind) bytes 0 → IsOutcome bytes (Err (fault_at kind 0))
-fault_here bytes one.Truncated h = h
-fault_here bytes one.LongVarint h = h
-fault_here bytes one.BadType h = h
+-- a first fault of a kind, as one of the whole
+pub fault_outcome : (bytes : List ℕ) (kind : Fault) (place : ℕ) → IsFirstFault (FieldFault kind) bytes place → IsOutcome bytes (Err (fault_at kind place))
+fault_outcome bytes one.Truncated place h = h
+fault_outcome bytes one.LongVarint place h = h
+fault_outcome bytes one.BadType place h = h
 
 some_within : (n : ℕ) (bytes : List ℕ) → length bytes ≤ n → AreBytes bytes → (outcome : Result (List WireField) WireFault) × IsOutcome bytes outcome
 some_within n [] short fits = (Ok [], refl)
@@ -76,7 +77,7 @@ some_within (suc n) (b ∷ bs) short fits = at (λ rest shorter rest_fits. some_
         let shorter : length rest ≤ n = omega (arith, field_long t.text f t.is, ap length t.parts, length-append t.text rest) in
         let after = onward rest shorter (AreBytes-front t.text rest (rw t.parts at fits)) in
         (behind (f ∷ []) (length t.text) after.0, subst (λ (w : List ℕ). IsOutcome w (behind (f ∷ []) (length t.text) after.0)) (sym t.parts) (outcome_behind t.text rest (f ∷ []) after.0 (one_field t.text f t.is) after.1))
-    at onward (Err kind) e = (Err (fault_at kind 0), fault_here (b ∷ bs) kind (record { fields = []; before = refl; within = omega arith; fault = fault_takes kind (b ∷ bs) fits e }))
+    at onward (Err kind) e = (Err (fault_at kind 0), fault_outcome (b ∷ bs) kind 0 (record { fields = []; before = refl; within = omega arith; fault = fault_takes kind (b ∷ bs) fits e }))
 
 pub some_outcome : (bytes : List ℕ) → ((i : ℕ) → get_or bytes i 0 < 256) → (outcome : Result (List WireField) WireFault) × IsOutcome bytes outcome
 some_outcome bytes fits = some_within (length bytes) bytes (omega arith) fits

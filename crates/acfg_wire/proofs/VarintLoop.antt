@@ -1,5 +1,5 @@
 -- A varint as the loop reads it: the low groups so far, and what the rest gives.
-use Rattle.std.proofs.Common.{◌≡◌, ℕ, zero, suc, ◌+◌, ◌-◌, ◌*◌, ◌%◌, ◌^◌, ◌<◌, ◌≤◌, List, ◌∷◌, drop, get_or, length, Result, Ok, Err, refl, sym, ap, ◌∙◌, arith, inl, inr}
+use Rattle.std.proofs.Common.{◌⊎◌, ◌≡◌, ℕ, zero, suc, ◌+◌, ◌-◌, ◌*◌, ◌%◌, ◌^◌, ◌<◌, ◌≤◌, List, ◌∷◌, drop, get_or, length, Result, Ok, Err, refl, sym, ap, ◌∙◌, arith, inl, inr}
 use Rattle.std.specs.Prelude.{bit_and, bit_or}
 use Rattle.std.proofs.lemmas.Nat.{or_comm, or_shifted, and_mask, shl_whole, pow-add, mul-le}
 use Rattle.std.proofs.lemmas.List.{drop_more}
@@ -17,6 +17,11 @@ pub joined : (value b j k : ℕ) → value < 2 ^ k → b % 128 < 2 ^ j → j + k
 joined value b j k low few fits =
     let masked : bit_and b 127 ≡ b % 128 = and_mask b 7 in
     rw (masked, shl_whole (b % 128) j k 64 few fits, or_comm value (b % 128 * 2 ^ k), or_shifted (b % 128) k value low) (omega arith)
+
+-- a tenth byte that was let pass has one bit
+pub one_bit : (i b : ℕ) → ((i ≡ 9) × (b ≤ 1)) ⊎ (i ≡ 9 → ⊥) → i ≡ 9 → b ≤ 1
+one_bit i b (inl h) nine = h.1
+one_bit i b (inr h) nine = absurd (h nine)
 
 -- the same at the groups of a varint, of which the tenth has one bit
 pub joined_at : (value b i : ℕ) → i ≤ 9 → (i ≡ 9 → b ≤ 1) → value < 2 ^ (7 * i) → bit_or value (bit_and b 127 * 2 ^ (7 * i) % 2 ^ 64) ≡ value + 2 ^ (7 * i) * (b % 128)

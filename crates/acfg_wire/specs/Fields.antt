@@ -70,12 +70,6 @@ pub record LiesAtEnd (bytes : List ℕ) (place end : ℕ) (content : List ℕ) :
   pub behind : place + length content < end
   pub there : slice_range bytes (end - length content) end ≡ content
 
--- each value's bytes are the last ones of its field
-abbrev pub ValuesLieIn : List ℕ → List WireField → List ℕ → Type 0
-ValuesLieIn bytes fields places =
-    (i : ℕ) (f : WireField) → slice_get fields i ≡ Some f
-    → LiesAtEnd bytes (slice_index places i) (end_of bytes places i) (content_of f.value)
-
 -- a value as the code has it, by what its slice holds
 abbrev pub value_of : FieldValue → Value
 value_of (rust.Varint n) = varint n
@@ -92,6 +86,12 @@ fields_of fs = map field_of fs
 
 abbrev pub places_of : List Field → List ℕ
 places_of fs = map (λ f. f.place) fs
+
+-- each field that was read from these bytes has its value's bytes there, as the last ones of the field
+abbrev pub ValuesLieIn : List ℕ → List Field → Type 0
+ValuesLieIn bytes read =
+    (i : ℕ) (f : Field) → slice_get read i ≡ Some f
+    → LiesAtEnd bytes f.place (end_of bytes (places_of read) i) (content_of (value_of f.value))
 
 -- a number that a field may be written with
 pub record IsFieldNumber (number : ℕ) : Type 0 where

@@ -1,8 +1,8 @@
 //! Bytes read as a list of fields.
 
-ghost use Rattle.std.specs.Prelude.{◌≡◌, ◌⊎◌, ℕ, List, IfOk, MatchResult, IsErrOf};
+ghost use Rattle.std.specs.Prelude.{◌≡◌, ◌⊎◌, ℕ, List, IfOk, IfErr, MatchResult, IsErrOf, Err};
 ghost use Rattle.acfg_wire.specs.Fields.{WireField, IsFields, BeginAt, ValuesLieIn, value_of, field_of, fields_of, places_of};
-ghost use Rattle.acfg_wire.specs.Faults.{IsFirstFault, IsTruncated, HasLongVarint, HasBadType};
+ghost use Rattle.acfg_wire.specs.Outcome.{IsOutcome};
 ghost use Rattle.acfg_wire.specs.Reading.{ReadsAs, varint_at, front_at, value_at, field_at};
 
 use crate::fault::{Fault, WireFault};
@@ -101,26 +101,16 @@ pub fn read_fields(alloc: Global, bytes: &[u8]) -> Result<Vec<Field<'_>>, WireFa
     // What is read is what the bytes are.
     ensures fields { IfOk result (λ read. IsFields bytes.now (fields_of read.items)) }
     ensures places { IfOk result (λ read. BeginAt bytes.now (fields_of read.items) (places_of read.items)) }
-    ensures values { IfOk result (λ read. ValuesLieIn bytes.now (fields_of read.items) (places_of read.items)) }
+    ensures values { IfOk result (λ read. ValuesLieIn bytes.now read.items) }
     // Bytes that are fields are read, unless memory runs out.
     ensures tells_fields { (fields : List WireField) → IsFields bytes.now fields
         → MatchResult result (λ read. fields_of read.items ≡ fields) (λ fault. fault ≡ WireFault.OutOfMemory) }
 
-    // A fault that is told stands, and is the first one.
-    ensures truncated { (place : ℕ) → IsErrOf result (WireFault.Truncated place)
-        → IsFirstFault IsTruncated bytes.now place }
-    ensures long_varint { (place : ℕ) → IsErrOf result (WireFault.LongVarint place)
-        → IsFirstFault HasLongVarint bytes.now place }
-    ensures bad_type { (place : ℕ) → IsErrOf result (WireFault.BadType place)
-        → IsFirstFault HasBadType bytes.now place }
-
+    // A fault that is told is the first one.
+    ensures fault { IfErr result (λ fault. (fault ≡ WireFault.OutOfMemory) ⊎ IsOutcome bytes.now (Err fault)) }
     // The first fault is told, unless memory runs out.
-    ensures tells_truncated { (place : ℕ) → IsFirstFault IsTruncated bytes.now place
-        → IsErrOf result (WireFault.Truncated place) ⊎ IsErrOf result WireFault.OutOfMemory }
-    ensures tells_long_varint { (place : ℕ) → IsFirstFault HasLongVarint bytes.now place
-        → IsErrOf result (WireFault.LongVarint place) ⊎ IsErrOf result WireFault.OutOfMemory }
-    ensures tells_bad_type { (place : ℕ) → IsFirstFault HasBadType bytes.now place
-        → IsErrOf result (WireFault.BadType place) ⊎ IsErrOf result WireFault.OutOfMemory }
+    ensures tells_fault { (fault : WireFault) → IsOutcome bytes.now (Err fault)
+        → IsErrOf result fault ⊎ IsErrOf result WireFault.OutOfMemory }
 {
     let mut fields = Vec::new(alloc);
     let mut rest = bytes;

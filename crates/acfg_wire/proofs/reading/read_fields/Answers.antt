@@ -1,13 +1,14 @@
-use Rattle.std.proofs.Common.{◌≡◌, ◌<◌, ◌++◌, ◌∷◌, [], length, Result, Ok, Err, sym, arith}
+use Rattle.std.proofs.Common.{◌≡◌, ◌<◌, ◌++◌, ◌∷◌, [], length, Result, Ok, Err, inr, sym, arith}
 use Rattle.std.proofs.lemmas.Bool.{eqb-true, eqb-false}
 use Rattle.std.proofs.lemmas.List.{map_push}
 use Rattle.std.specs.Global.{Vec}
-use Rattle.acfg_wire.specs.declared.fault.Fault.TheVariants as one
 use Rattle.acfg_wire.specs.declared.fault.WireFault.{WireFault}
-use Rattle.acfg_wire.specs.declared.fault.WireFault.TheVariants.{Truncated, LongVarint, BadType}
 use Rattle.acfg_wire.specs.declared.field.Field.{Field}
 use Rattle.acfg_wire.specs.Fields.{field_of, fields_of, places_of}
-use Rattle.acfg_wire.proofs.Answer.{IsAnswer, so_far_first, so_far_next, so_far_last, so_far_fault, fault_answer, told, told_is, read_again, shorter}
+use Rattle.acfg_wire.specs.Outcome.{IsOutcome}
+use Rattle.acfg_wire.proofs.Ends.{values_lie_in}
+use Rattle.acfg_wire.proofs.Outcomes.{fault_outcome}
+use Rattle.acfg_wire.proofs.Answer.{so_far_first, so_far_next, so_far_last, so_far_fault, shorter, tells_fields, tells_fault}
 use Rattle.acfg_wire.proofs.reading.read_fields.Goals as goal
 
 pub loop-rest-init : goal.loop-rest-init
@@ -29,35 +30,27 @@ returns-in-Err c =
     let bytes = c.args.bytes.now in
     let some : 0 < length c.loop-rest.rest.now = omega (arith, eqb-false _ _ (sym c.loop-rest-test.ensures)) in
     let first = so_far_fault bytes c.loop-rest.rest.now _ _ c.in-Err.fault (λ i. omega (arith, c.type_inv.bytes i)) c.loop-rest.invariant c.in-Err.ensures.field some in
+    let told : IsOutcome bytes (Err c.at.result) = rw c.at.ensures (fault_outcome bytes c.in-Err.fault _ first) in
     let result : Result (Vec Field) WireFault = Err c.at.result in
-    let h : IsAnswer bytes result = rw c.at.ensures (fault_answer bytes c.in-Err.fault _ first) in
     record {
       fields = tt;
       places = tt;
       values = tt;
-      tells_fields = read_again bytes result h;
-      truncated = λ p e. told_is bytes result (Truncated p) h e;
-      long_varint = λ p e. told_is bytes result (LongVarint p) h e;
-      bad_type = λ p e. told_is bytes result (BadType p) h e;
-      tells_truncated = λ p fault. told one.Truncated bytes result p h fault;
-      tells_long_varint = λ p fault. told one.LongVarint bytes result p h fault;
-      tells_bad_type = λ p fault. told one.BadType bytes result p h fault;
+      tells_fields = tells_fields bytes result (inr told);
+      fault = inr told;
+      tells_fault = tells_fault bytes result (inr told);
     }
 
 pub returns : goal.returns
 returns c =
     let bytes = c.args.bytes.now in
     let result : Result (Vec Field) WireFault = Ok c.loop-rest.fields in
-    let h : IsAnswer bytes result = so_far_last bytes c.loop-rest.rest.now _ _ c.loop-rest.invariant (eqb-true _ _ (sym c.loop-rest-test.ensures)) in
+    let last = so_far_last bytes c.loop-rest.rest.now _ _ c.loop-rest.invariant (eqb-true _ _ (sym c.loop-rest-test.ensures)) in
     record {
-      fields = h.0;
-      places = h.1;
-      values = h.2;
-      tells_fields = read_again bytes result h;
-      truncated = λ p e. told_is bytes result (Truncated p) h e;
-      long_varint = λ p e. told_is bytes result (LongVarint p) h e;
-      bad_type = λ p e. told_is bytes result (BadType p) h e;
-      tells_truncated = λ p fault. told one.Truncated bytes result p h fault;
-      tells_long_varint = λ p fault. told one.LongVarint bytes result p h fault;
-      tells_bad_type = λ p fault. told one.BadType bytes result p h fault;
+      fields = last.0;
+      places = last.1;
+      values = values_lie_in bytes c.loop-rest.fields.items last.2;
+      tells_fields = tells_fields bytes result last.0;
+      fault = tt;
+      tells_fault = tells_fault bytes result last.0;
     }
