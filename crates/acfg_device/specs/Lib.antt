@@ -1,1 +1,5 @@
+pub mod Account
+pub mod Calls
+pub mod Disk
+pub mod Left
 pub mod Panel

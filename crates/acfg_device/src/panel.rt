@@ -1,7 +1,10 @@
 //! What is read and said.
 
-ghost use Rattle.std.specs.Prelude.{◌≡◌, ℕ, ◌≤◌, ◌++◌, Bool, List, IsTrue, IfOk, OnOk, OnErr};
+ghost use Rattle.std.specs.Prelude.{◌≡◌, ◌⊎◌, ℕ, ◌≤◌, ◌++◌, Bool, List, [], IsTrue, IfOk, OnOk, OnErr};
 ghost use Rattle.std.specs.Option.{option_map};
+ghost use Rattle.acfg_device.specs.Account.{Account, moved_on};
+ghost use Rattle.acfg_device.specs.Calls.{after_say};
+ghost use Rattle.acfg_device.specs.Disk.{IsSettled, MayLeave, told};
 ghost use Rattle.acfg_device.specs.Panel.{Files, Rose, SaysPart};
 
 use std::alloc::{AllocError, AllocFailed, Global};
@@ -50,6 +53,9 @@ pub trait Panel {
     /// The bytes said so far.
     ghost said: { Self → List ℕ };
 
+    /// What a cut of power may leave of the files and the words, at this moment and at those before.
+    ghost account: { Self → Account };
+
     /// How often the outside failed. It never falls, and stands still at the last number of 64 bits.
     ghost faults: { Self → ℕ };
 
@@ -58,6 +64,7 @@ pub trait Panel {
         ensures found { IsTrue tells → IfOk result (λ found. option_map (λ bytes. bytes.items) found ≡ files self.old name.now) }
         ensures files { files self.new ≡ files self.old }
         ensures said { said self.new ≡ said self.old }
+        ensures account { account self.new ≡ account self.old }
         ensures count { faults self.old ≤ faults self.new }
         ensures failed { result ≡ Err ReadFault.Failed → Rose (faults self.old) (faults self.new) };
 
@@ -65,7 +72,24 @@ pub trait Panel {
     fn say(&mut self, bytes: &[u8]) -> Result<(), Failed>
         ensures ok { IsTrue tells → OnOk result (said self.new ≡ said self.old ++ bytes.now) }
         ensures err { IsTrue tells → OnErr result (SaysPart (said self.old) (said self.new) bytes.now) }
+        ensures account_ok { IsTrue tells → OnOk result (account self.new
+            ≡ moved_on (account self.old) (after_say (account self.old).now bytes.now) bytes.now) }
+        ensures account_err { IsTrue tells → OnErr result ((account self.new ≡ account self.old) ⊎ ((part rest : List ℕ) × (bytes.now ≡ part ++ rest)
+            × (account self.new ≡ moved_on (account self.old) (after_say (account self.old).now part) part))) }
         ensures files { files self.new ≡ files self.old }
         ensures count { faults self.old ≤ faults self.new }
         ensures failed { OnErr result (Rose (faults self.old) (faults self.new)) };
+
+    /// The files are those of the account's disk.
+    ghost files_told: { (panel : Self) → files panel ≡ told (account panel).now };
+
+    /// The words are those of the account's disk.
+    ghost said_told: { (panel : Self) → said panel ≡ (account panel).now.said };
+
+    /// What is told now is what a cut now may leave.
+    ghost told_now: { (panel : Self) → MayLeave (account panel).now (files panel) (said panel) };
+
+    /// A settled panel leaves what it tells, and nothing else.
+    ghost settled_leaves: { (panel : Self) (left : Files) (words : List ℕ) → IsSettled (account panel).now
+        → MayLeave (account panel).now left words → (left ≡ files panel) × (words ≡ said panel) };
 }

@@ -1,0 +1,45 @@
+-- Functions of names, changed at one name or two.
+use Rattle.std.proofs.Common.{◌≡◌, ◌≢◌, ◌⊎◌, inl, inr, ℕ, List, Option, refl, sym, ◌∙◌, ap}
+use Rattle.std.proofs.lemmas.Bool.{cases_Bool, false_from_ne_true}
+use Rattle.std.proofs.lemmas.Slice.Eq.{bytes_eq-Decides}
+use Rattle.std.specs.Map.{update}
+use Rattle.std.specs.Str.{bytes_eq}
+
+-- two names are the same or they aren't
+pub same_name : (name other : List ℕ) → (other ≡ name) ⊎ (other ≢ name)
+same_name name other = elim (cases_Bool (bytes_eq name other)) [
+  | inl same ↦ inl (sym ((bytes_eq-Decides name other).0 same))
+  | inr apart ↦ inr (λ same. cc (apart, (bytes_eq-Decides name other).1 (sym same)))
+]
+
+-- functions with the same answers are the same
+pub functions : {A B : Type 0} (f g : A → B) → ((x : A) → f x ≡ g x) → f ≡ g
+functions f g same = λ i x. same x i
+
+module _ {X : Type 0} (f : List ℕ → Option X) (name : List ℕ) (value : Option X) where
+  pub update_here : update bytes_eq f name value name ≡ value
+  update_here = rw ((bytes_eq-Decides name name).1 refl) refl
+
+  pub update_apart : (other : List ℕ) → other ≢ name → update bytes_eq f name value other ≡ f other
+  update_apart other apart =
+      rw (false_from_ne_true (bytes_eq name other) (λ same. apart (sym ((bytes_eq-Decides name other).0 same)))) refl
+
+  -- an update that is undone
+  pub update_back : (before : Option X) → f name ≡ before → update bytes_eq (update bytes_eq f name value) name before ≡ f
+  update_back before was = functions _ f each
+    where
+      each : (other : List ℕ) → update bytes_eq (update bytes_eq f name value) name before other ≡ f other
+      each other = elim (cases_Bool (bytes_eq name other)) [
+        | inl same ↦ rw same (sym was ∙ ap f ((bytes_eq-Decides name other).0 same))
+        | inr apart ↦ rw apart refl
+      ]
+
+  -- an update to what is there
+  pub update_same : f name ≡ value → update bytes_eq f name value ≡ f
+  update_same was = functions _ f each
+    where
+      each : (other : List ℕ) → update bytes_eq f name value other ≡ f other
+      each other = elim (cases_Bool (bytes_eq name other)) [
+        | inl same ↦ rw same (sym was ∙ ap f ((bytes_eq-Decides name other).0 same))
+        | inr apart ↦ rw apart refl
+      ]
