@@ -205,6 +205,26 @@ settled_but disk changed files said settled left =
     let is = settled_leaves disk left.before said settled left.may in
     ((λ name apart. left.same name apart ∙ ap (λ (all : Files). all name) is.0), is.1)
 
+-- ---- where files were moved to
+
+module _ (disk : Disk) (name other : List ℕ) (free : NotMovedTo disk.pending other) where
+  pub free_write : (bytes : List ℕ) → NotMovedTo (after_write disk name bytes).pending other
+  free_write bytes = by_file (disk.names name)
+    where
+      by_file : (was : Option File) → NotMovedTo (cond (is_some was) disk.pending (Made name ∷ disk.pending)) other
+      by_file None = free
+      by_file (Some file) = free
+
+  pub free_remove : NotMovedTo (after_remove disk name).pending other
+  free_remove = by_file (disk.names name)
+    where
+      by_file : (was : Option File) → NotMovedTo (without disk name was).pending other
+      by_file None = free
+      by_file (Some file) = free
+
+  pub free_rename : (to : List ℕ) → to ≢ other → NotMovedTo (after_rename disk name to).pending other
+  free_rename to apart = (apart, free)
+
 -- ---- synced files
 
 -- each file is synced

@@ -1,4 +1,5 @@
 pub mod AfterCalls
+pub mod Carried
 pub mod Cuts
 pub mod Moments
 pub mod Naming

@@ -1,0 +1,2 @@
+mod Replacing
+mod Writing
