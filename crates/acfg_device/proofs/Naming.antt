@@ -43,3 +43,13 @@ module _ {X : Type 0} (f : List ℕ → Option X) (name : List ℕ) (value : Opt
         | inl same ↦ rw same (sym was ∙ ap f ((bytes_eq-Decides name other).0 same))
         | inr apart ↦ rw apart refl
       ]
+
+  -- of two updates the later one counts
+  pub update_twice : (later : Option X) → update bytes_eq (update bytes_eq f name value) name later ≡ update bytes_eq f name later
+  update_twice later = functions _ (update bytes_eq f name later) each
+    where
+      each : (other : List ℕ) → update bytes_eq (update bytes_eq f name value) name later other ≡ update bytes_eq f name later other
+      each other = elim (cases_Bool (bytes_eq name other)) [
+        | inl same ↦ rw same refl
+        | inr apart ↦ rw apart refl
+      ]

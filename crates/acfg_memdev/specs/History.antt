@@ -1,0 +1,127 @@
+-- The life of a device in memory, and the account that it makes.
+use Rattle.std.specs.Prelude.{◌≡◌, ◌≢◌, ◌+◌, ◌-◌, ◌^◌, ◌≤◌, ◌++◌, ◌==◌, ⊤, ℕ, zero, suc, List, [], ◌∷◌, Bool, Option, Some, None, IsSomeAnd, if◌then◌else◌, length, min, nat_lt}
+use Rattle.std.specs.List.{list_any}
+use Rattle.std.specs.Map.{lookup}
+use Rattle.std.specs.Option.{option_map}
+use Rattle.std.specs.Str.{bytes_eq}
+use Rattle.acfg_device.specs.Account.{Account, moved_on}
+use Rattle.acfg_device.specs.Calls.{after_write, after_write_at, after_sync, after_rename, after_remove, after_sync_names, after_say}
+use Rattle.acfg_device.specs.Disk.{Disk, File, Within}
+use Rattle.acfg_device.specs.Panel.{Files, last_count}
+
+-- a call, with what it was given
+pub data Step : Type 0 where
+  Write : List ℕ → List ℕ → Step
+  WriteAt : List ℕ → ℕ → List ℕ → Step
+  Sync : List ℕ → Step
+  Rename : List ℕ → List ℕ → Step
+  Remove : List ℕ → Step
+  SyncNames : Step
+  Say : List ℕ → Step
+
+-- what the call makes of a disk
+abbrev pub done : Step → Disk → Disk
+done (Write name bytes) disk = after_write disk name bytes
+done (WriteAt name at bytes) disk = after_write_at disk name at bytes
+done (Sync name) disk = after_sync disk name
+done (Rename from to) disk = after_rename disk from to
+done (Remove name) disk = after_remove disk name
+done SyncNames disk = after_sync_names disk
+done (Say bytes) disk = after_say disk bytes
+
+-- the bytes that are said in it
+abbrev pub saying : Step → List ℕ
+saying (Write name bytes) = []
+saying (WriteAt name at bytes) = []
+saying (Sync name) = []
+saying (Rename from to) = []
+saying (Remove name) = []
+saying SyncNames = []
+saying (Say bytes) = bytes
+
+-- what a call asks of the disk
+abbrev pub CanDo : Step → Disk → Type 0
+CanDo (Write name bytes) disk = ⊤
+CanDo (WriteAt name at bytes) disk = IsSomeAnd (disk.names name) (λ file. at + length bytes ≤ length file.bytes)
+CanDo (Sync name) disk = ⊤
+CanDo (Rename from to) disk = from ≢ to
+CanDo (Remove name) disk = ⊤
+CanDo SyncNames disk = ⊤
+CanDo (Say bytes) disk = ⊤
+
+-- the bytes under each name; of two entries with one name the first counts
+abbrev pub given : List (List ℕ × List ℕ) → Files
+given entries = λ name. lookup (bytes_eq name) entries
+
+-- a synced file
+abbrev pub settled_file : List ℕ → File
+settled_file bytes = record { bytes = bytes; loose = Within [] }
+
+-- a settled disk with these files, and these words said
+abbrev pub settled_disk : Files → List ℕ → Disk
+settled_disk files words = record { names = λ name. option_map settled_file (files name); pending = []; said = words }
+
+-- The files and the words at the start, the calls that were carried out with their numbers, how many calls
+-- were made, which numbers are to fail, and how many calls found no memory.
+pub record History : Type 0 where
+  pub files : List (List ℕ × List ℕ)
+  pub words : List ℕ
+  pub log : List (ℕ × Step)
+  pub calls : ℕ
+  pub fails : List ℕ
+  pub starved : ℕ
+
+-- the account after these calls
+abbrev pub after_all : List (ℕ × Step) → Account → Account
+after_all [] account = account
+after_all (entry ∷ log) account = after_all log (moved_on account (done entry.1 account.now) (saying entry.1))
+
+-- the account at the start
+abbrev pub first : History → Account
+first device = record { now = settled_disk (given device.files) device.words; past = [] }
+
+-- the account now
+abbrev pub account_of : History → Account
+account_of device = after_all device.log (first device)
+
+-- a call with the number is to fail
+abbrev pub is_listed : List ℕ → ℕ → Bool
+is_listed fails number = list_any (λ fail. fail == number) fails
+
+-- how many of the calls below this number were to fail
+abbrev pub listed : List ℕ → ℕ → ℕ
+listed fails zero = 0
+listed fails (suc number) = listed fails number + (if is_listed fails number then 1 else 0)
+
+-- how often the device failed
+abbrev pub faults_of : History → ℕ
+faults_of device = listed device.fails device.calls + device.starved
+
+-- the last number that a call is counted with
+abbrev pub last_call : ℕ
+last_call = 2 ^ 128 - 1
+
+-- one call more was made, and nothing else
+abbrev pub called : History → History
+called device = record device { calls = min (device.calls + 1) last_call }
+
+-- that call was carried out
+abbrev pub stepped : History → Step → History
+stepped device step = record (called device) { log = device.log ++ (device.calls, step) ∷ [] }
+
+-- that call found no memory
+abbrev pub starved_once : History → History
+starved_once device = record (called device) { starved = min (device.starved + 1) last_count }
+
+-- the calls below this number
+abbrev pub until : ℕ → List (ℕ × Step) → List (ℕ × Step)
+until calls [] = []
+until calls (entry ∷ log) = if nat_lt entry.0 calls then entry ∷ until calls log else []
+
+-- the disk after the calls below this number
+abbrev pub disk_after : History → ℕ → Disk
+disk_after device calls = (after_all (until calls device.log) (first device)).now
+
+-- a device that has made no call
+abbrev pub unused : List (List ℕ × List ℕ) → List ℕ → List ℕ → History
+unused files words fails = record { files = files; words = words; log = []; calls = 0; fails = fails; starved = 0 }

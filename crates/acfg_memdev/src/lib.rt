@@ -1,0 +1,9 @@
+//! A device in memory. It tells its files and words, and gives what a cut of power may leave of them.
+#![tactic(auto)]
+
+mod device;
+mod disk;
+mod file;
+mod slots;
+mod step;
+pub use device::MemDevice;

@@ -1,0 +1,44 @@
+//! Calls that were carried out, and one function that carries one out.
+
+ghost use Rattle.std.specs.Prelude.{◌≡◌, OnOk, OnErr, IfOk};
+ghost use Rattle.acfg_memdev.specs.Slots.{disk_of};
+ghost use Rattle.acfg_memdev.specs.History.{CanDo, done};
+ghost use Rattle.acfg_memdev.specs.Kept.{step_of};
+
+use crate::disk::{Disk, remove, rename, say, sync, sync_names, write, write_at};
+use acfg_device::OutOfMemory;
+use std::alloc::Global;
+
+/// A call on the device, with what it was given.
+#[derive(Drop)]
+pub enum Call {
+    Write(String, Vec<u8>),
+    WriteAt(String, usize, Vec<u8>),
+    Sync(String),
+    Rename(String, String),
+    Remove(String),
+    SyncNames,
+    Say(Vec<u8>),
+}
+
+/// Carries a call out, or leaves the disk as it was.
+pub fn perform(disk: &mut Disk, alloc: Global, call: &Call) -> Result<(), OutOfMemory>
+    requires { CanDo (step_of call.now) (disk_of disk.old) }
+    ensures ok { OnOk result (disk_of disk.new ≡ done (step_of call.now) (disk_of disk.old)) }
+    ensures err { OnErr result (disk_of disk.new ≡ disk_of disk.old) }
+{
+    match call {
+        Call::Write(name, bytes) => write(disk, alloc, name.as_str(), bytes.as_slice()),
+        Call::WriteAt(name, at, bytes) => {
+            write_at(disk, alloc, name.as_str(), *at, bytes.as_slice())
+        }
+        Call::Sync(name) => sync(disk, alloc, name.as_str()),
+        Call::Rename(from, to) => rename(disk, alloc, from.as_str(), to.as_str()),
+        Call::Remove(name) => remove(disk, alloc, name.as_str()),
+        Call::SyncNames => {
+            sync_names(disk);
+            Ok(())
+        }
+        Call::Say(bytes) => say(disk, bytes.as_slice()),
+    }
+}
