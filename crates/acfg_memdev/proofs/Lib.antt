@@ -1,3 +1,5 @@
 mod Filling
 mod Kept
+mod Logs
 mod Slotted
+mod Ties

@@ -1,12 +1,12 @@
 -- The life of a device in memory, and the account that it makes.
-use Rattle.std.specs.Prelude.{◌≡◌, ◌≢◌, ◌+◌, ◌-◌, ◌^◌, ◌≤◌, ◌++◌, ◌==◌, ⊤, ℕ, zero, suc, List, [], ◌∷◌, Bool, Option, Some, None, IsSomeAnd, if◌then◌else◌, length, min, nat_lt}
+use Rattle.std.specs.Prelude.{◌≡◌, ◌≢◌, ◌⊎◌, ◌+◌, ◌-◌, ◌^◌, ◌≤◌, ◌++◌, ◌==◌, ⊤, ℕ, true, false, Result, MatchResult, zero, suc, List, [], ◌∷◌, Bool, Option, Some, None, IsSomeAnd, if◌then◌else◌, length, min, nat_lt}
 use Rattle.std.specs.List.{list_any}
 use Rattle.std.specs.Map.{lookup}
 use Rattle.std.specs.Option.{option_map}
 use Rattle.std.specs.Str.{bytes_eq}
 use Rattle.acfg_device.specs.Account.{Account, moved_on}
 use Rattle.acfg_device.specs.Calls.{after_write, after_write_at, after_sync, after_rename, after_remove, after_sync_names, after_say}
-use Rattle.acfg_device.specs.Disk.{Disk, File, Within}
+use Rattle.acfg_device.specs.Disk.{Disk, File, Within, told}
 use Rattle.acfg_device.specs.Panel.{Files, last_count}
 
 -- a call, with what it was given
@@ -77,12 +77,23 @@ after_all [] account = account
 after_all (entry ∷ log) account = after_all log (moved_on account (done entry.1 account.now) (saying entry.1))
 
 -- the account at the start
+abbrev pub starting : List (List ℕ × List ℕ) → List ℕ → Account
+starting files words = record { now = settled_disk (given files) words; past = [] }
+
 abbrev pub first : History → Account
-first device = record { now = settled_disk (given device.files) device.words; past = [] }
+first device = starting device.files device.words
 
 -- the account now
 abbrev pub account_of : History → Account
 account_of device = after_all device.log (first device)
+
+-- what is read under each name
+abbrev pub files_of : History → Files
+files_of device = told (account_of device).now
+
+-- the words said
+abbrev pub said_of : History → List ℕ
+said_of device = (account_of device).now.said
 
 -- a call with the number is to fail
 abbrev pub is_listed : List ℕ → ℕ → Bool
@@ -105,13 +116,21 @@ last_call = 2 ^ 128 - 1
 abbrev pub called : History → History
 called device = record device { calls = min (device.calls + 1) last_call }
 
--- that call was carried out
-abbrev pub stepped : History → Step → History
-stepped device step = record (called device) { log = device.log ++ (device.calls, step) ∷ [] }
+-- a call of this number was carried out
+abbrev pub logged : History → ℕ → Step → History
+logged device number step = record device { log = device.log ++ (number, step) ∷ [] }
 
--- that call found no memory
+-- a call found no memory
 abbrev pub starved_once : History → History
-starved_once device = record (called device) { starved = min (device.starved + 1) last_count }
+starved_once device = record device { starved = min (device.starved + 1) last_count }
+
+-- A call failed: its number is listed, and nothing else changed, or it found no memory.
+abbrev pub HasFailed : History → History → Type 0
+HasFailed old new = ((is_listed old.fails old.calls ≡ true) × (new ≡ called old)) ⊎ ((is_listed old.fails old.calls ≡ false) × (new ≡ starved_once (called old)))
+
+-- A call was carried out, and its number isn't listed, or it failed.
+abbrev pub IsCall : {T E : Type 0} → Result T E → History → History → Step → Type 0
+IsCall result old new step = MatchResult result (λ _. (is_listed old.fails old.calls ≡ false) × (new ≡ logged (called old) old.calls step)) (λ _. HasFailed old new)
 
 -- the calls below this number
 abbrev pub until : ℕ → List (ℕ × Step) → List (ℕ × Step)

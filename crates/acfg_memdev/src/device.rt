@@ -1,13 +1,17 @@
 //! The device, and how a call is counted and carried out.
 
-ghost use Rattle.std.specs.Prelude.{◌≡◌, [], map, reverse, IsTrue, IfOk, OnOk, OnErr, MatchResult};
-ghost use Rattle.acfg_memdev.specs.History.{CanDo, account_of, called, is_listed, starved_once, stepped, unused};
+ghost use Rattle.std.specs.Prelude.{◌≡◌, ◌<◌, ◌≤◌, ◌^◌, [], true, false, map, reverse, IsTrue, IsErr, IsOkAnd, IfOk, OnOk, OnErr, MatchResult};
+ghost use Rattle.std.specs.Option.{option_map};
+ghost use Rattle.std.specs.Result.{ForOk};
+ghost use Rattle.acfg_device.specs.Account.{moved_on};
+ghost use Rattle.acfg_device.specs.Panel.{Rose};
+ghost use Rattle.acfg_memdev.specs.History.{CanDo, HasFailed, IsCall, account_of, called, done, faults_of, files_of, is_listed, logged, saying, starved_once, unused};
 ghost use Rattle.acfg_memdev.specs.Kept.{entry_of, step_of};
 
-use crate::disk::Disk;
-use crate::slots::filled;
-use crate::step::Call;
-use acfg_device::OutOfMemory;
+use crate::disk::{Disk, push_within};
+use crate::slots::{filled, read};
+use crate::step::{Call, perform};
+use acfg_device::{Failed, OutOfMemory};
 use std::alloc::Global;
 use std::marker::Model;
 
@@ -89,4 +93,101 @@ impl MemDevice {
     {
         self.starved
     }
+
+    // The device's own allocator.
+    pub(crate) fn alloc(&self) -> Global {
+        self.alloc
+    }
+
+    pub(crate) fn bytes_of(&self, alloc: Global, name: &str) -> Result<Option<Vec<u8>>, OutOfMemory>
+        ensures { IfOk result (λ found. option_map (λ bytes. bytes.items) found ≡ files_of self.now name.now) }
+    {
+        read(&self.disk.slots, alloc, name)
+    }
+
+    // Counts a call and gives its number, or fails where that is listed.
+    pub(crate) fn begin(&mut self) -> Result<u128, Failed>
+        ensures called { self.new ≡ called self.old }
+        ensures cases { MatchResult result
+            (λ number. (number ≡ self.old.calls) × (is_listed self.old.fails self.old.calls ≡ false))
+            (λ _. is_listed self.old.fails self.old.calls ≡ true) }
+        ensures count { faults_of self.old ≤ faults_of self.new }
+        ensures rose { OnErr result (Rose (faults_of self.old) (faults_of self.new)) }
+    {
+        let number = self.calls;
+        self.calls = number.saturating_add(1);
+        if is_among(self.fails.as_slice(), number) {
+            return Err(Failed);
+        }
+        Ok(number)
+    }
+
+    // A call: it fails where its number is listed, and else it is carried out, or finds no memory.
+    pub(crate) fn call(&mut self, call: Result<Call, OutOfMemory>) -> Result<(), Failed>
+        requires { ForOk call (λ call. CanDo (step_of call) (account_of self.old).now) }
+        ensures ok { OnOk result (IsOkAnd call (λ call. IsCall result self.old self.new (step_of call))) }
+        ensures err { OnErr result (HasFailed self.old self.new) }
+        ensures account { OnOk result (IsOkAnd call (λ call. account_of self.new
+            ≡ moved_on (account_of self.old) (done (step_of call) (account_of self.old).now) (saying (step_of call)))) }
+        ensures same { OnErr result (account_of self.new ≡ account_of self.old) }
+        ensures count { faults_of self.old ≤ faults_of self.new }
+        ensures rose { OnErr result (Rose (faults_of self.old) (faults_of self.new)) }
+    {
+        let number = self.begin()?;
+        self.carry_out(number, call)?;
+        Ok(())
+    }
+
+    // Carries out a call of this number, or counts that it found no memory.
+    fn carry_out(
+        &mut self,
+        number: u128,
+        call: Result<Call, OutOfMemory>,
+    ) -> Result<(), Failed>
+        requires { ForOk call (λ call. CanDo (step_of call) (account_of self.old).now) }
+        ensures cases { MatchResult result (λ _. IsOkAnd call (λ call. self.new ≡ logged self.old number (step_of call))) (λ _. self.new ≡ starved_once self.old) }
+        ensures count { faults_of self.old ≤ faults_of self.new }
+        ensures rose { OnErr result (Rose (faults_of self.old) (faults_of self.new)) }
+    {
+        match call {
+            Ok(call) => match self.log_call(number, call) {
+                Ok(()) => Ok(()),
+                Err(OutOfMemory) => self.starve(),
+            },
+            Err(OutOfMemory) => self.starve(),
+        }
+    }
+
+    fn log_call(&mut self, number: u128, call: Call) -> Result<(), OutOfMemory>
+        requires { CanDo (step_of call) (account_of self.old).now }
+        ensures ok { OnOk result (self.new ≡ logged self.old number (step_of call)) }
+        ensures err { OnErr result (self.new ≡ self.old) }
+    {
+        self.log.reserve(1)?;
+        perform(&mut self.disk, self.alloc, &call)?;
+        push_within(&mut self.log, (number, call));
+        Ok(())
+    }
+
+    fn starve(&mut self) -> Result<(), Failed>
+        ensures starved { self.new ≡ starved_once self.old }
+        ensures failed { IsErr result }
+        ensures count { faults_of self.old ≤ faults_of self.new }
+        ensures rose { Rose (faults_of self.old) (faults_of self.new) }
+    {
+        self.starved = self.starved.saturating_add(1);
+        Err(Failed)
+    }
+}
+
+fn is_among(fails: &[u64], number: u128) -> bool
+    ensures value { result ≡ is_listed fails.now number }
+    ensures small { IsTrue result → number < 2 ^ 64 }
+{
+    for fail in fails {
+        if u128::from(*fail) == number {
+            return true;
+        }
+    }
+    false
 }

@@ -1,6 +1,7 @@
 //! A device in memory. It tells its files and words, and gives what a cut of power may leave of them.
 #![tactic(auto)]
 
+mod calls;
 mod device;
 mod disk;
 mod file;

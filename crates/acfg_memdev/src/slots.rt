@@ -88,3 +88,14 @@ pub fn filled(alloc: Global, files: &[(String, Vec<u8>)]) -> Result<Slots, OutOf
     }
     Ok(slots)
 }
+
+/// A copy of the bytes of the file that the name names, if it names one.
+pub fn read(slots: &Slots, alloc: Global, name: &str) -> Result<Option<Vec<u8>>, OutOfMemory>
+    ensures { IfOk result (λ found. option_map (λ bytes. bytes.items) found ≡ option_map (λ file. file.bytes) (names_of slots.now name.now)) }
+{
+    match slots.get(name) {
+        Some(Some(file)) => Ok(Some(Vec::from_slice(alloc, file.bytes.as_slice())?)),
+        Some(None) => Ok(None),
+        None => Ok(None),
+    }
+}

@@ -2,7 +2,7 @@
 
 ghost use Rattle.std.specs.Prelude.{◌≡◌, OnOk, OnErr, IfOk};
 ghost use Rattle.acfg_memdev.specs.Slots.{disk_of};
-ghost use Rattle.acfg_memdev.specs.History.{CanDo, done};
+ghost use Rattle.acfg_memdev.specs.History.{CanDo, Write, WriteAt, Sync, Rename, Remove, Say, done};
 ghost use Rattle.acfg_memdev.specs.Kept.{step_of};
 
 use crate::disk::{Disk, remove, rename, say, sync, sync_names, write, write_at};
@@ -40,5 +40,51 @@ pub fn perform(disk: &mut Disk, alloc: Global, call: &Call) -> Result<(), OutOfM
             Ok(())
         }
         Call::Say(bytes) => say(disk, bytes.as_slice()),
+    }
+}
+
+impl Call {
+    pub fn write(alloc: Global, name: &str, bytes: &[u8]) -> Result<Call, OutOfMemory>
+        ensures { IfOk result (λ call. step_of call ≡ Write name.now bytes.now) }
+    {
+        let name = String::from_str(alloc, name)?;
+        Ok(Call::Write(name, Vec::from_slice(alloc, bytes)?))
+    }
+
+    pub fn write_at(
+        alloc: Global,
+        name: &str,
+        at: usize,
+        bytes: &[u8],
+    ) -> Result<Call, OutOfMemory>
+        ensures { IfOk result (λ call. step_of call ≡ WriteAt name.now at bytes.now) }
+    {
+        let name = String::from_str(alloc, name)?;
+        Ok(Call::WriteAt(name, at, Vec::from_slice(alloc, bytes)?))
+    }
+
+    pub fn sync(alloc: Global, name: &str) -> Result<Call, OutOfMemory>
+        ensures { IfOk result (λ call. step_of call ≡ Sync name.now) }
+    {
+        Ok(Call::Sync(String::from_str(alloc, name)?))
+    }
+
+    pub fn rename(alloc: Global, from: &str, to: &str) -> Result<Call, OutOfMemory>
+        ensures { IfOk result (λ call. step_of call ≡ Rename from.now to.now) }
+    {
+        let from = String::from_str(alloc, from)?;
+        Ok(Call::Rename(from, String::from_str(alloc, to)?))
+    }
+
+    pub fn remove(alloc: Global, name: &str) -> Result<Call, OutOfMemory>
+        ensures { IfOk result (λ call. step_of call ≡ Remove name.now) }
+    {
+        Ok(Call::Remove(String::from_str(alloc, name)?))
+    }
+
+    pub fn say(alloc: Global, bytes: &[u8]) -> Result<Call, OutOfMemory>
+        ensures { IfOk result (λ call. step_of call ≡ Say bytes.now) }
+    {
+        Ok(Call::Say(Vec::from_slice(alloc, bytes)?))
     }
 }
