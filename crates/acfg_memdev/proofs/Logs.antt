@@ -1,10 +1,9 @@
 -- One call more in a log.
 use Rattle.std.proofs.Common.{◌≡◌, ℕ, List, [], ◌∷◌, ◌++◌, Result, Ok, Err, IsOkAnd, refl, ◌∙◌, ap}
 use Rattle.acfg_device.specs.Account.{Account, moved_on}
-use Rattle.acfg_memdev.specs.History.{CanDo, History, Step, account_of, after_all, called, done, first, logged, saying}
+use Rattle.acfg_memdev.specs.History.{CanDo, CanDoAll, History, Step, account_of, after_all, called, done, first, logged, saying}
 use Rattle.acfg_memdev.specs.Kept.{step_of}
 use Rattle.acfg_memdev.specs.declared.step.Call.{Call}
-use Rattle.acfg_memdev.specs.Tied.{CanDoAll}
 
 pub after_all-append : (log more : List (ℕ × Step)) (account : Account) → after_all (log ++ more) account ≡ after_all more (after_all log account)
 after_all-append [] more account = refl

@@ -3,10 +3,10 @@ use Rattle.std.proofs.Common.{◌≡◌, ℕ, List, [], ◌∷◌, ◌++◌, ref
 use Rattle.std.proofs.lemmas.List.{map-append}
 use Rattle.acfg_device.specs.Account.{Account}
 use Rattle.acfg_device.specs.Disk as disk
-use Rattle.acfg_memdev.specs.History.{CanDo, History, Step, account_of, done, after_all, first, logged, starting}
+use Rattle.acfg_memdev.specs.History.{CanDo, CanDoAll, History, Step, account_of, done, after_all, first, logged, starting}
 use Rattle.acfg_memdev.specs.Kept.{entry_of, logged_of, step_of}
 use Rattle.acfg_memdev.specs.Slots.{disk_of}
-use Rattle.acfg_memdev.specs.Tied.{CanDoAll, IsTied, history_of}
+use Rattle.acfg_memdev.specs.Tied.{IsTied, history_of}
 use Rattle.acfg_memdev.specs.declared.device.MemDevice.TheInside.{Inside}
 use Rattle.acfg_memdev.specs.declared.step.Call.{Call}
 use Rattle.acfg_memdev.proofs.Logs.{able_too, account-logged}

@@ -137,9 +137,19 @@ abbrev pub until : ℕ → List (ℕ × Step) → List (ℕ × Step)
 until calls [] = []
 until calls (entry ∷ log) = if nat_lt entry.0 calls then entry ∷ until calls log else []
 
+-- the disk after these calls
+abbrev pub carried : List (ℕ × Step) → Disk → Disk
+carried [] disk = disk
+carried (entry ∷ log) disk = carried log (done entry.1 disk)
+
+-- each of these calls can be done when it is its turn
+abbrev pub CanDoAll : List (ℕ × Step) → Disk → Type 0
+CanDoAll [] disk = ⊤
+CanDoAll (entry ∷ log) disk = CanDo entry.1 disk × CanDoAll log (done entry.1 disk)
+
 -- the disk after the calls below this number
 abbrev pub disk_after : History → ℕ → Disk
-disk_after device calls = (after_all (until calls device.log) (first device)).now
+disk_after device calls = carried (until calls device.log) (first device).now
 
 -- a device that has made no call
 abbrev pub unused : List (List ℕ × List ℕ) → List ℕ → List ℕ → History

@@ -1,8 +1,6 @@
 -- What a device in memory keeps is what its history makes of the disk.
-use Rattle.std.specs.Prelude.{◌≡◌, ⊤, ℕ, List, [], ◌∷◌, String, Vec, string_bytes, map}
-use Rattle.std.specs.declared.alloc.Global.{Global}
-use Rattle.acfg_device.specs.Disk as disk
-use Rattle.acfg_memdev.specs.History.{CanDo, History, Step, account_of, done, first}
+use Rattle.std.specs.Prelude.{◌≡◌, map}
+use Rattle.acfg_memdev.specs.History.{CanDoAll, History, account_of, first}
 use Rattle.acfg_memdev.specs.Kept.{entry_of, logged_of}
 use Rattle.acfg_memdev.specs.Slots.{disk_of}
 use Rattle.acfg_memdev.specs.declared.device.MemDevice.TheInside.{Inside}
@@ -16,11 +14,6 @@ history_of device = record {
   fails = device.fails.items;
   starved = device.starved;
 }
-
--- each call could be done when it was
-abbrev pub CanDoAll : List (ℕ × Step) → disk.Disk → Type 0
-CanDoAll [] at = ⊤
-CanDoAll (entry ∷ log) at = CanDo entry.1 at × CanDoAll log (done entry.1 at)
 
 pub record IsTied (device : Inside) : Type 0 where
   pub same : disk_of device.disk ≡ (account_of (history_of device)).now

@@ -5,12 +5,13 @@ ghost use Rattle.std.specs.Option.{option_map};
 ghost use Rattle.std.specs.Result.{ForOk};
 ghost use Rattle.acfg_device.specs.Account.{moved_on};
 ghost use Rattle.acfg_device.specs.Panel.{Rose};
-ghost use Rattle.acfg_memdev.specs.History.{CanDo, HasFailed, IsCall, account_of, called, done, faults_of, files_of, is_listed, logged, saying, starved_once, unused};
+ghost use Rattle.acfg_memdev.specs.History.{CanDo, HasFailed, IsCall, account_of, called, disk_after, done, faults_of, files_of, is_listed, logged, saying, starved_once, unused};
 ghost use Rattle.acfg_memdev.specs.Kept.{entry_of, step_of};
+ghost use Rattle.acfg_memdev.specs.Slots.{disk_of};
 
 use crate::disk::{Disk, push_within};
-use crate::slots::{filled, read};
-use crate::step::{Call, perform};
+use crate::slots::{read, slots_of};
+use crate::step::{Call, perform, replay};
 use acfg_device::{Failed, OutOfMemory};
 use std::alloc::Global;
 use std::marker::Model;
@@ -64,7 +65,7 @@ impl MemDevice {
         ensures { IfOk result (λ device. device ≡ unused (map entry_of start.items) words.items fails.items) }
     {
         let disk = Disk {
-            slots: filled(alloc, start.as_slice())?,
+            slots: slots_of(alloc, start.as_slice())?,
             pending: Vec::new(alloc),
             said: Vec::from_slice(alloc, words.as_slice())?,
         };
@@ -120,6 +121,19 @@ impl MemDevice {
             return Err(Failed);
         }
         Ok(number)
+    }
+
+    // The disk after the calls below this number.
+    pub(crate) fn disk_at(&self, alloc: Global, calls: u64) -> Result<Disk, OutOfMemory>
+        ensures { IfOk result (λ disk. disk_of disk ≡ disk_after self.now calls) }
+    {
+        let mut disk = Disk {
+            slots: slots_of(alloc, self.start.as_slice())?,
+            pending: Vec::new(alloc),
+            said: Vec::from_slice(alloc, self.words.as_slice())?,
+        };
+        replay(&mut disk, alloc, self.log.as_slice(), u128::from(calls))?;
+        Ok(disk)
     }
 
     // A call: it fails where its number is listed, and else it is carried out, or finds no memory.

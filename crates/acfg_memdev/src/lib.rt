@@ -2,6 +2,7 @@
 #![tactic(auto)]
 
 mod calls;
+mod cut;
 mod device;
 mod disk;
 mod file;

@@ -79,7 +79,7 @@ fn fill_slot(
 }
 
 /// Slots for these files, all of them synced. Of two entries with one name the first counts.
-pub fn filled(alloc: Global, files: &[(String, Vec<u8>)]) -> Result<Slots, OutOfMemory>
+pub fn slots_of(alloc: Global, files: &[(String, Vec<u8>)]) -> Result<Slots, OutOfMemory>
     ensures { IfOk result (λ slots. names_of slots ≡ (settled_disk (given (map entry_of files.now)) []).names) }
 {
     let mut slots = BTreeMap::new(alloc);

@@ -1,9 +1,9 @@
 //! Calls that were carried out, and one function that carries one out.
 
-ghost use Rattle.std.specs.Prelude.{◌≡◌, OnOk, OnErr, IfOk};
+ghost use Rattle.std.specs.Prelude.{◌≡◌, OnOk, OnErr, IfOk, map};
 ghost use Rattle.acfg_memdev.specs.Slots.{disk_of};
-ghost use Rattle.acfg_memdev.specs.History.{CanDo, Write, WriteAt, Sync, Rename, Remove, Say, done};
-ghost use Rattle.acfg_memdev.specs.Kept.{step_of};
+ghost use Rattle.acfg_memdev.specs.History.{CanDo, CanDoAll, Write, WriteAt, Sync, Rename, Remove, Say, carried, done, until};
+ghost use Rattle.acfg_memdev.specs.Kept.{logged_of, step_of};
 
 use crate::disk::{Disk, remove, rename, say, sync, sync_names, write, write_at};
 use acfg_device::OutOfMemory;
@@ -41,6 +41,25 @@ pub fn perform(disk: &mut Disk, alloc: Global, call: &Call) -> Result<(), OutOfM
         }
         Call::Say(bytes) => say(disk, bytes.as_slice()),
     }
+}
+
+/// Carries out the calls below a number, in order.
+pub fn replay(
+    disk: &mut Disk,
+    alloc: Global,
+    log: &[(u128, Call)],
+    calls: u128,
+) -> Result<(), OutOfMemory>
+    requires { CanDoAll (map logged_of log.now) (disk_of disk.old) }
+    ensures { OnOk result (disk_of disk.new ≡ carried (until calls (map logged_of log.now)) (disk_of disk.old)) }
+{
+    for (number, call) in log {
+        if *number >= calls {
+            return Ok(());
+        }
+        perform(disk, alloc, call)?;
+    }
+    Ok(())
 }
 
 impl Call {

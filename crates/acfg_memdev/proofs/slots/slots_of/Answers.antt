@@ -1,7 +1,7 @@
 use Rattle.std.proofs.Common.{◌∙◌}
 use Rattle.acfg_memdev.proofs.Filling.{turn}
 use Rattle.acfg_memdev.specs.Slots.{names_of}
-use Rattle.acfg_memdev.proofs.slots.filled.Goals as goal
+use Rattle.acfg_memdev.proofs.slots.slots_of.Goals as goal
 
 pub loop-name-preserved : goal.loop-name-preserved
 loop-name-preserved c name =
