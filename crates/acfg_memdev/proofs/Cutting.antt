@@ -64,7 +64,7 @@ cut_allowed disk count fill = record { under = keeps_cut fill count disk.pending
 left_too : (log : List (ℕ × Step)) (account : Account) (files : Files) (said : List ℕ) → LeftSince account 0 files said → LeftSince (after_all log account) 0 files said
 left_too [] account files said left = left
 left_too (entry ∷ log) account files said left = left_too log (moved_on account (done entry.1 account.now) (saying entry.1)) files said
-  (⊎_elim (λ now. inr (inl (omega arith, record { under = now.under; words = ([], saying entry.1, refl, now.words ∙ sym (nothing account.now.said)) }))) (λ past. inr (inr past)) left)
+    (⊎_elim (λ now. inr (inl (omega arith, record { under = now.under; words = ([], saying entry.1, refl, now.words ∙ sym (nothing account.now.said)) }))) (λ past. inr (inr past)) left)
   where
     nothing : (said : List ℕ) → said ++ [] ≡ said
     nothing [] = refl
@@ -130,9 +130,9 @@ module _ {E : Type 0} (result : Result History E) (device : History) (calls coun
 
   pub cut_since : IfOk result (λ left. LeftSince (account_of device) 0 (files_of left) (said_of left))
   cut_since = if_ok result (λ left. left ≡ unused entries words fails) (λ left. LeftSince (account_of device) 0 (files_of left) (said_of left)) (λ left is.
-    subst (λ (account : Account). LeftSince account 0 (files_of left) (said_of left)) (sym split)
+      subst (λ (account : Account). LeftSince account 0 (files_of left) (said_of left)) (sym split)
       (left_too (rest calls device.log) (after_all (until calls device.log) (first device)) (files_of left) (said_of left)
-        (inl (subst (λ (d : Disk). MayLeave d (files_of left) (said_of left)) (sym (after_carried (until calls device.log) (first device))) (allowed left is))))) made
+      (inl (subst (λ (d : Disk). MayLeave d (files_of left) (said_of left)) (sym (after_carried (until calls device.log) (first device))) (allowed left is))))) made
     where
       split : account_of device ≡ after_all (rest calls device.log) (after_all (until calls device.log) (first device))
       split = ap (λ (log : List (ℕ × Step)). after_all log (first device)) (until_split calls device.log) ∙ after_all-append (until calls device.log) (rest calls device.log) (first device)

@@ -70,4 +70,4 @@ turn files index item names after called bytes low is named held there absent na
 
     split : map entry_of (drop index files) ≡ (called, bytes) ∷ map entry_of (drop (index + 1) files)
     split = ap (map entry_of) (drop_more files index item low) ∙ ap (λ (entry : String Global × Vec ℕ Global). entry_of entry ∷ map entry_of (drop (index + 1) files)) (sym is)
-      ∙ (λ i. (sym named i, sym held i) ∷ map entry_of (drop (index + 1) files))
+        ∙ (λ i. (sym named i, sym held i) ∷ map entry_of (drop (index + 1) files))

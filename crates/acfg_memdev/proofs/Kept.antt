@@ -31,11 +31,11 @@ put_again old zero one two name file same put again =
 module _ (old new : disk.Disk) (name : List ℕ) (said : new.said ≡ old.said) where
   pub wrote_over : (bytes : List ℕ) (file : disk.File) → new.names ≡ update bytes_eq old.names name (Some (new_file bytes)) → new.pending ≡ old.pending → Some file ≡ old.names name → new ≡ after_write old name bytes
   wrote_over bytes file names pending was = same_disk new (after_write old name bytes) names
-    (pending ∙ ap (λ (f : Option disk.File). cond (is_some f) old.pending (disk.Made name ∷ old.pending)) was) said
+      (pending ∙ ap (λ (f : Option disk.File). cond (is_some f) old.pending (disk.Made name ∷ old.pending)) was) said
 
   pub wrote_new : (bytes : List ℕ) → new.names ≡ update bytes_eq old.names name (Some (new_file bytes)) → new.pending ≡ disk.Made name ∷ old.pending → None ≡ old.names name → new ≡ after_write old name bytes
   wrote_new bytes names pending was = same_disk new (after_write old name bytes) names
-    (pending ∙ ap (λ (f : Option disk.File). cond (is_some f) old.pending (disk.Made name ∷ old.pending)) was) said
+      (pending ∙ ap (λ (f : Option disk.File). cond (is_some f) old.pending (disk.Made name ∷ old.pending)) was) said
 
   pub removed_file : (file : disk.File) → new.names ≡ update bytes_eq old.names name None → new.pending ≡ disk.Removed name file ∷ old.pending → Some file ≡ old.names name → new ≡ after_remove old name
   removed_file file names pending was = same_disk new (without old name (Some file)) names pending said ∙ ap (without old name) was

@@ -18,7 +18,7 @@ pub tied_logged : (before after : Inside) (number : ℕ) (call : Call) → IsTie
 tied_logged before after number call tied can start words log kept = record {
   same = kept ∙ ap (done (step_of call)) tied.same ∙ sym (ap (λ (account : Account). account.now) (account-logged old number (step_of call))) ∙ ap (λ (account : Account). account.now) same_account;
   able = subst (λ (entries : List (ℕ × Step)). CanDoAll entries (first new).now) (sym entries)
-    (subst (λ (account : Account). CanDoAll (old.log ++ (number, step_of call) ∷ []) account.now) (sym same_first) (able_too old.log number (step_of call) (first old) tied.able can));
+      (subst (λ (account : Account). CanDoAll (old.log ++ (number, step_of call) ∷ []) account.now) (sym same_first) (able_too old.log number (step_of call) (first old) tied.able can));
 }
   where
     old : History

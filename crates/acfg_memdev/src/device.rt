@@ -153,11 +153,7 @@ impl MemDevice {
     }
 
     // Carries out a call of this number, or counts that it found no memory.
-    fn carry_out(
-        &mut self,
-        number: u128,
-        call: Result<Call, OutOfMemory>,
-    ) -> Result<(), Failed>
+    fn carry_out(&mut self, number: u128, call: Result<Call, OutOfMemory>) -> Result<(), Failed>
         requires { ForOk call (λ call. CanDo (step_of call) (account_of self.old).now) }
         ensures cases { MatchResult result (λ _. IsOkAnd call (λ call. self.new ≡ logged self.old number (step_of call))) (λ _. self.new ≡ starved_once self.old) }
         ensures count { faults_of self.old ≤ faults_of self.new }

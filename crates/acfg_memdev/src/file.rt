@@ -48,7 +48,10 @@ pub fn overwrite(file: &mut File, at: usize, bytes: &[u8]) -> Result<(), OutOfMe
 pub fn settle(alloc: Global, file: File) -> File
     ensures { file_of result ≡ synced (file_of file) }
 {
-    let File { bytes, loose: _loose } = file;
+    let File {
+        bytes,
+        loose: _loose,
+    } = file;
     File {
         bytes,
         loose: Loose::Within(Vec::new(alloc)),

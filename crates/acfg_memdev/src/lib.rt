@@ -8,4 +8,8 @@ mod disk;
 mod file;
 mod slots;
 mod step;
+
 pub use device::MemDevice;
+
+#[cfg(test)]
+mod tests;

@@ -56,12 +56,7 @@ pub fn is_there(slots: &Slots, name: &str) -> bool
 }
 
 // Puts a synced file into the slot, where there is none.
-fn fill_slot(
-    slots: &mut Slots,
-    alloc: Global,
-    name: &str,
-    bytes: &[u8],
-) -> Result<(), OutOfMemory>
+fn fill_slot(slots: &mut Slots, alloc: Global, name: &str, bytes: &[u8]) -> Result<(), OutOfMemory>
     ensures there { is_some (names_of slots.old name.now) ≡ true → names_of slots.new ≡ names_of slots.old }
     ensures absent { is_some (names_of slots.old name.now) ≡ false
         → OnOk result (names_of slots.new ≡ update bytes_eq (names_of slots.old) name.now (Some (settled_file bytes.now))) }

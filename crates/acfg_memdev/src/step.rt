@@ -70,12 +70,7 @@ impl Call {
         Ok(Call::Write(name, Vec::from_slice(alloc, bytes)?))
     }
 
-    pub fn write_at(
-        alloc: Global,
-        name: &str,
-        at: usize,
-        bytes: &[u8],
-    ) -> Result<Call, OutOfMemory>
+    pub fn write_at(alloc: Global, name: &str, at: usize, bytes: &[u8]) -> Result<Call, OutOfMemory>
         ensures { IfOk result (λ call. step_of call ≡ WriteAt name.now at bytes.now) }
     {
         let name = String::from_str(alloc, name)?;

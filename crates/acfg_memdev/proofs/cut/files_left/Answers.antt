@@ -20,8 +20,8 @@ loop-name-preserved-in_ok-push-in-Some-2 c name =
     let named = c.in_ok-from_str-in-Some-2.ensures.ok ∙ c.as_str-in-Some-2.ensures.value in
     c.loop-name.invariant name
     ∙ more_listed all (map entry_of c.loop-name.left.items) (map entry_of c.push.new.self.items) (string_bytes c.in_ok-from_str-in-Some-2.field-0) c.in-Some.name.now c.in-Some-2.bytes.items c.loop-name.name-iterator c.next.new.self
-      (rest_more deref _ _ c.next.result c.in-Some.name c.in-Some.is c.next.ensures.steps)
-      named
-      (sym (ap (option_map (λ (bytes : Vec ℕ Global). bytes.items)) c.in-Some-2.is) ∙ c.in_ok-bytes.ensures ∙ ap all (c.as_str.ensures.value ∙ sym named))
-      (ap (map entry_of) c.in_ok-push-in-Some-2.ensures.items ∙ map-append entry_of c.loop-name.left.items _)
-      name
+    (rest_more deref _ _ c.next.result c.in-Some.name c.in-Some.is c.next.ensures.steps)
+    named
+    (sym (ap (option_map (λ (bytes : Vec ℕ Global). bytes.items)) c.in-Some-2.is) ∙ c.in_ok-bytes.ensures ∙ ap all (c.as_str.ensures.value ∙ sym named))
+    (ap (map entry_of) c.in_ok-push-in-Some-2.ensures.items ∙ map-append entry_of c.loop-name.left.items _)
+    name

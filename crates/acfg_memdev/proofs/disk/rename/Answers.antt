@@ -22,6 +22,6 @@ returns-clause-ok c =
     let moved = c.put-moved.ensures.was ∙ ap (λ (names : disk.Names). names from) made in
     let lost = c.put-lost.ensures.was ∙ ap (λ (names : disk.Names). names to) emptied ∙ update_apart old from None to (λ same. c.requires (sym same)) in
     renamed (disk_of c.args.disk.now) _ from refl to
-      (put_names (update bytes_eq old from None) _ _ to _ emptied c.put-lost.ensures.names ∙ ap (λ (file : Option disk.File). update bytes_eq (update bytes_eq old from None) to file) moved)
-      (pushed c.reserve.new.self.items c.push_within.new.items.items (Moved c.in_ok-old.old c.in_ok-new.new c.put-lost.result) c.push_within.ensures
-        ∙ (λ i. disk.Moved (c.in_ok-old.ensures.ok i) (c.in_ok-new.ensures.ok i) (lost i) ∷ reverse (map change_of (c.in_ok-reserve.ensures.items i))))
+    (put_names (update bytes_eq old from None) _ _ to _ emptied c.put-lost.ensures.names ∙ ap (λ (file : Option disk.File). update bytes_eq (update bytes_eq old from None) to file) moved)
+    (pushed c.reserve.new.self.items c.push_within.new.items.items (Moved c.in_ok-old.old c.in_ok-new.new c.put-lost.result) c.push_within.ensures
+    ∙ (λ i. disk.Moved (c.in_ok-old.ensures.ok i) (c.in_ok-new.ensures.ok i) (lost i) ∷ reverse (map change_of (c.in_ok-reserve.ensures.items i))))

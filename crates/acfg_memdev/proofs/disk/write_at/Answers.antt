@@ -26,15 +26,15 @@ returns-in-Ok-clause-ok c =
     let named : disk.Names → Option disk.File = λ names. names c.args.name.now in
     let new : disk.File → disk.Names = λ file. update bytes_eq (names_of c.args.disk.now.slots) c.args.name.now (Some file) in
     wrote_at _ _ c.args.name.now refl c.args.at c.args.bytes.now (file_of c.in-Some.file)
-      (put_again _ _ _ _ _ _ c.in_ok-make_slot.ensures.names c.in-Some.ensures.names c.put-in-Ok.ensures.names ∙ ap new c.in-Ok.ensures.ok)
-      refl
-      (c.in-Some.ensures.was ∙ ap named c.in_ok-make_slot.ensures.names)
+    (put_again _ _ _ _ _ _ c.in_ok-make_slot.ensures.names c.in-Some.ensures.names c.put-in-Ok.ensures.names ∙ ap new c.in-Ok.ensures.ok)
+    refl
+    (c.in-Some.ensures.was ∙ ap named c.in_ok-make_slot.ensures.names)
 
 pub returns-in-Err-clause-err : goal.returns-in-Err-clause-err
 returns-in-Err-clause-err c =
     let named : disk.Names → Option disk.File = λ names. names c.args.name.now in
     let new : disk.File → disk.Names = λ file. update bytes_eq (names_of c.args.disk.now.slots) c.args.name.now (Some file) in
     put_back _ _ c.args.name.now refl (file_of c.in-Some.file)
-      (put_again _ _ _ _ _ _ c.in_ok-make_slot.ensures.names c.in-Some.ensures.names c.put-in-Err.ensures.names ∙ ap new c.in-Err.ensures.err)
-      refl
-      (c.in-Some.ensures.was ∙ ap named c.in_ok-make_slot.ensures.names)
+    (put_again _ _ _ _ _ _ c.in_ok-make_slot.ensures.names c.in-Some.ensures.names c.put-in-Err.ensures.names ∙ ap new c.in-Err.ensures.err)
+    refl
+    (c.in-Some.ensures.was ∙ ap named c.in_ok-make_slot.ensures.names)

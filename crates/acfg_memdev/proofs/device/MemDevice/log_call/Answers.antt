@@ -8,7 +8,7 @@ use Rattle.acfg_memdev.proofs.device.MemDevice.log_call.Goals as goal
 pub invariant_of-self-2 : goal.invariant_of-self-2
 invariant_of-self-2 c =
     tied_logged c.self.inside _ c.args.number c.args.call c.self.invariant
-      (subst (λ (device : History). CanDo (step_of c.args.call) (account_of device).now) (sym c.self.view_is) c.requires)
-      refl refl
-      (c.push_within.ensures ∙ ap (λ (log : List (ℕ × Call)). log ++ (c.args.number, c.args.call) ∷ []) c.in_ok-reserve.ensures.items)
-      c.in_ok-perform.ensures.ok
+    (subst (λ (device : History). CanDo (step_of c.args.call) (account_of device).now) (sym c.self.view_is) c.requires)
+    refl refl
+    (c.push_within.ensures ∙ ap (λ (log : List (ℕ × Call)). log ++ (c.args.number, c.args.call) ∷ []) c.in_ok-reserve.ensures.items)
+    c.in_ok-perform.ensures.ok
