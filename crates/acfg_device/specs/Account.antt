@@ -1,6 +1,6 @@
 -- The account of a device: its disk now, and the moments before. What a cut now may leave, and what a cut at
 -- some moment since an earlier one might have left.
-use Rattle.std.specs.Prelude.{◌≡◌, ◌⊎◌, ◌≤◌, ◌++◌, ℕ, List, [], ◌∷◌, length}
+use Rattle.std.specs.Prelude.{◌≡◌, ◌⊎◌, ◌≤◌, ◌++◌, ℕ, List, [], ◌∷◌, None, length}
 use Rattle.acfg_device.specs.Panel.{Files, SaysPart}
 use Rattle.acfg_device.specs.Disk.{Disk, KeepsSome, MayLeave}
 
@@ -42,3 +42,7 @@ moved_on account disk saying = record { now = disk; past = record { disk = accou
 pub record IsLater (earlier later : Account) : Type 0 where
   pub more : List Moment
   pub past : later.past ≡ more ++ earlier.past
+
+-- the account of a panel that tells nothing
+abbrev pub untold : Account
+untold = record { now = record { names = λ name. None; pending = []; said = [] }; past = [] }
