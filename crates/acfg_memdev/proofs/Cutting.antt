@@ -1,14 +1,14 @@
 -- What a cut gives is what the model allows.
-use Rattle.std.proofs.Common.{◌≡◌, ◌⊎◌, inl, inr, ⊎_elim, ℕ, zero, suc, ◌+◌, ◌≤◌, ◌<◌, List, [], ◌∷◌, ◌++◌, Option, Some, None, Bool, true, false, length, get_or, replicate, cond, nat_lt, refl, sym, ◌∙◌, ap, subst, arith, Result, Ok, Err, IfOk}
+use Rattle.std.proofs.Common.{◌≡◌, inl, inr, ⊎_elim, ℕ, zero, suc, ◌+◌, List, [], ◌∷◌, ◌++◌, Option, Some, None, Bool, true, false, length, get_or, cond, nat_lt, refl, sym, ◌∙◌, ap, subst, arith, Result, Ok, Err, IfOk}
 use Rattle.std.specs.Option.{option_map}
 use Rattle.acfg_device.specs.Account.{Account, LeftSince, moved_on}
-use Rattle.acfg_device.specs.Disk.{Change, Disk, File, KeepsNames, KeepsSome, Loose, MayHold, MayLeave, MayStand, Names, Replaced, SameOutside, Within, in_ranges, undone}
+use Rattle.acfg_device.specs.Disk.{Change, Disk, File, KeepsNames, KeepsSome, Loose, MayHold, MayLeave, MayStand, Names, Replaced, Within, in_ranges, undone}
 use Rattle.acfg_device.specs.Panel.{Files}
 use Rattle.acfg_device.proofs.Cuts.{own_bytes}
 use Rattle.acfg_device.proofs.Naming.{functions}
 use Rattle.acfg_memdev.proofs.Logs.{after_all-append}
 use Rattle.acfg_memdev.specs.Cut.{IsCut, cut_files, filled, filled_from, filled_with, kept}
-use Rattle.acfg_memdev.specs.History.{History, Step, account_of, after_all, carried, disk_after, done, files_of, first, given, said_of, saying, settled_disk, settled_file, unused, until}
+use Rattle.acfg_memdev.specs.History.{History, Step, account_of, after_all, carried, disk_after, done, files_of, first, given, said_of, saying, settled_file, unused, until}
 
 -- ---- one file
 

@@ -1,5 +1,5 @@
 -- Slots are filled with files, one after another; a name that has a file already is passed over.
-use Rattle.std.proofs.Common.{◌≡◌, ◌≢◌, inl, inr, ℕ, ◌+◌, ◌<◌, length, get_or, String, Vec, string_bytes, suc, List, [], ◌∷◌, Option, Some, None, Bool, is_some, true, false, map, drop, refl, sym, ◌∙◌, ap, cond}
+use Rattle.std.proofs.Common.{◌≡◌, ◌≢◌, inl, inr, ℕ, ◌+◌, ◌<◌, length, get_or, String, Vec, string_bytes, List, [], ◌∷◌, Option, Some, None, is_some, true, false, map, drop, refl, sym, ◌∙◌, ap}
 use Rattle.std.proofs.lemmas.Bool.{cases_Bool}
 use Rattle.std.proofs.lemmas.List.{drop_more}
 use Rattle.std.proofs.lemmas.Slice.Eq.{bytes_eq-Decides}

@@ -1,12 +1,12 @@
 -- A disk after slots were filled and emptied and a name change was pushed is the disk after the call.
-use Rattle.std.proofs.Common.{◌≡◌, ◌≢◌, ℕ, ◌+◌, ◌≤◌, List, [], ◌∷◌, ◌++◌, Option, Some, None, IsSomeAnd, is_some, length, map, reverse, cond, refl, sym, ◌∙◌, ap, subst}
+use Rattle.std.proofs.Common.{◌≡◌, ℕ, List, [], ◌∷◌, ◌++◌, Option, Some, None, is_some, map, reverse, cond, sym, ◌∙◌, ap}
 use Rattle.std.proofs.lemmas.List.{map-append, reverse-append}
 use Rattle.std.specs.Map.{update}
 use Rattle.std.specs.Option.{option_map}
 use Rattle.std.specs.Str.{bytes_eq}
 use Rattle.acfg_device.specs.Calls.{after_write, after_write_at, after_sync, after_rename, after_remove, new_file, overwritten, synced, without}
 use Rattle.acfg_device.specs.Disk as disk
-use Rattle.acfg_device.proofs.Naming.{update_apart, update_same, update_twice}
+use Rattle.acfg_device.proofs.Naming.{update_same, update_twice}
 use Rattle.acfg_memdev.specs.Held.{change_of}
 use Rattle.acfg_memdev.specs.declared.disk.Change.{Change}
 

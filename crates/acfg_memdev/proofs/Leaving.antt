@@ -1,7 +1,6 @@
 -- The files of the slots, listed by name.
-use Rattle.std.proofs.Common.{◌≡◌, ◌≢◌, ◌||◌, inl, inr, ℕ, ◌+◌, ◌<◌, List, [], ◌∷◌, ◌++◌, Option, Some, None, Bool, true, false, String, Vec, length, get_or, drop, map, string_bytes, cond, refl, sym, ◌∙◌, ap, append_assoc}
-use Rattle.std.proofs.lemmas.Bool.{cases_Bool}
-use Rattle.std.proofs.lemmas.List.{drop_more, map-append}
+use Rattle.std.proofs.Common.{◌≡◌, ◌||◌, ℕ, ◌+◌, ◌<◌, List, [], ◌∷◌, ◌++◌, Option, Some, None, Bool, true, false, String, length, get_or, drop, string_bytes, cond, refl, sym, ◌∙◌, ap, append_assoc}
+use Rattle.std.proofs.lemmas.List.{drop_more}
 use Rattle.std.proofs.lemmas.Map.Text.{is_eq-slice_cmp}
 use Rattle.std.proofs.lemmas.Slice.Eq.{bytes_eq-Decides}
 use Rattle.std.specs.BTreeMap.{BTreeMap, is_at, keys}
@@ -19,7 +18,6 @@ use Rattle.acfg_device.specs.Disk as disk
 use Rattle.acfg_memdev.specs.History.{given}
 use Rattle.acfg_memdev.specs.Slots.{names_of, slot_of}
 use Rattle.acfg_memdev.specs.declared.file.File.{File}
-use Rattle.acfg_memdev.specs.Kept.{entry_of}
 
 -- ---- bytes
 

@@ -1,8 +1,7 @@
 -- What is kept stays tied to the history.
-use Rattle.std.proofs.Common.{◌≡◌, ℕ, List, [], ◌∷◌, ◌++◌, refl, sym, ◌∙◌, ap, map, subst}
+use Rattle.std.proofs.Common.{◌≡◌, ℕ, List, [], ◌∷◌, ◌++◌, sym, ◌∙◌, ap, map, subst}
 use Rattle.std.proofs.lemmas.List.{map-append}
 use Rattle.acfg_device.specs.Account.{Account}
-use Rattle.acfg_device.specs.Disk as disk
 use Rattle.acfg_memdev.specs.History.{CanDo, CanDoAll, History, Step, account_of, done, after_all, first, logged, starting}
 use Rattle.acfg_memdev.specs.Kept.{entry_of, logged_of, step_of}
 use Rattle.acfg_memdev.specs.Slots.{disk_of}

@@ -1,14 +1,12 @@
 -- Name changes are undone, the newest first.
-use Rattle.std.proofs.Common.{◌≡◌, ◌≢◌, inl, inr, ℕ, ◌+◌, ◌≤◌, ◌<◌, List, [], ◌∷◌, ◌++◌, Option, Some, None, Bool, true, false, length, map, reverse, cond, refl, sym, ◌∙◌, ap, arith, nat_lt, length-append, rules}
+use Rattle.std.proofs.Common.{◌≡◌, inl, inr, ℕ, ◌+◌, ◌≤◌, ◌<◌, List, [], ◌∷◌, Option, None, true, false, length, cond, refl, sym, ◌∙◌, ap, arith, nat_lt}
 use Rattle.std.proofs.lemmas.Bool.Decides.{nat_tests}
 use Rattle.std.proofs.lemmas.List.{length-map, length-reverse}
 use Rattle.std.specs.Map.{update}
 use Rattle.std.specs.Str.{bytes_eq}
 use Rattle.acfg_device.specs.Disk as disk
 use Rattle.acfg_device.proofs.Naming.{functions, same_name, update_apart, update_here}
-use Rattle.acfg_memdev.proofs.Kept.{pushed}
 use Rattle.acfg_memdev.specs.Cut.{kept}
-use Rattle.acfg_memdev.specs.Held.{change_of}
 use Rattle.acfg_memdev.specs.Slots.{changes_of}
 use Rattle.acfg_memdev.specs.declared.disk.Change.{Change}
 

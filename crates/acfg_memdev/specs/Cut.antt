@@ -1,6 +1,6 @@
 -- What a cut leaves, where it is said how many name changes it keeps and what the bytes are that
 -- were not synced.
-use Rattle.std.specs.Prelude.{◌≡◌, ◌+◌, ℕ, List, [], ◌∷◌, Option, Some, None, Bool, if◌then◌else◌, length, nat_lt, replicate}
+use Rattle.std.specs.Prelude.{◌≡◌, ◌+◌, ℕ, List, [], ◌∷◌, Option, Some, None, if◌then◌else◌, length, nat_lt, replicate}
 use Rattle.std.specs.Option.{option_map}
 use Rattle.acfg_device.specs.Disk.{Loose, Within, Replaced, File, Names, Change, Disk, in_ranges, undone}
 use Rattle.acfg_device.specs.Panel.{Files}

@@ -1,5 +1,5 @@
 -- What the device keeps, as the disk that it stands for.
-use Rattle.std.specs.Prelude.{◌≡◌, ℕ, List, [], ◌∷◌, Option, Some, None, string_bytes, map}
+use Rattle.std.specs.Prelude.{string_bytes}
 use Rattle.std.specs.Option.{option_map}
 use Rattle.acfg_device.specs.Disk as disk
 use Rattle.acfg_memdev.specs.declared.file.Loose.{Loose}

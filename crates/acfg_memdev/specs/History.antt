@@ -1,5 +1,5 @@
 -- The life of a device in memory, and the account that it makes.
-use Rattle.std.specs.Prelude.{◌≡◌, ◌≢◌, ◌⊎◌, ◌+◌, ◌-◌, ◌^◌, ◌≤◌, ◌++◌, ◌==◌, ⊤, ℕ, true, false, Result, MatchResult, zero, suc, List, [], ◌∷◌, Bool, Option, Some, None, IsSomeAnd, if◌then◌else◌, length, min, nat_lt}
+use Rattle.std.specs.Prelude.{◌≡◌, ◌≢◌, ◌⊎◌, ◌+◌, ◌-◌, ◌^◌, ◌≤◌, ◌++◌, ◌==◌, ⊤, ℕ, true, false, Result, MatchResult, zero, suc, List, [], ◌∷◌, Bool, IsSomeAnd, if◌then◌else◌, length, min, nat_lt}
 use Rattle.std.specs.List.{list_any}
 use Rattle.std.specs.Map.{lookup}
 use Rattle.std.specs.Option.{option_map}

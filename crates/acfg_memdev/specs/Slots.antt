@@ -1,5 +1,5 @@
 -- The names of a disk, as the slots of a map.
-use Rattle.std.specs.Prelude.{ℕ, List, Option, Some, None, String, map, reverse}
+use Rattle.std.specs.Prelude.{List, Option, Some, None, String, map, reverse}
 use Rattle.std.specs.BTreeMap.{BTreeMap, get_by_text}
 use Rattle.std.specs.Option.{option_map}
 use Rattle.std.specs.declared.alloc.Global.{Global}

@@ -1,4 +1,4 @@
-use Rattle.std.proofs.Common.{◌∙◌, List, Vec, ap, map, option_map, refl, string_bytes, sym, ℕ}
+use Rattle.std.proofs.Common.{◌∙◌, Vec, ap, map, option_map, refl, string_bytes, sym, ℕ}
 use Rattle.std.proofs.lemmas.List.{map-append}
 use Rattle.std.proofs.lemmas.Map.Iter.{rest_more}
 use Rattle.std.specs.Map.Iter.{deref}

@@ -1,4 +1,4 @@
-use Rattle.std.proofs.Common.{◌≡◌, ◌++◌, drop, length}
+use Rattle.std.proofs.Common.{◌≡◌, ◌++◌, drop}
 use Rattle.acfg_memdev.specs.Cut.{filled_from}
 use Rattle.acfg_memdev.proofs.cut.fill_ranges.Given as goal
 

@@ -1,14 +1,12 @@
-use Rattle.std.proofs.Common.{◌∷◌, List, Option, Some, ap, map, refl, reverse, ◌∙◌, string_bytes, ℕ}
+use Rattle.std.proofs.Common.{◌∷◌, Option, ap, map, refl, reverse, ◌∙◌}
 use Rattle.std.specs.Map.{update}
 use Rattle.std.specs.Str.{bytes_eq}
-use Rattle.acfg_device.specs.Calls.{new_file, overwritten, synced}
 use Rattle.acfg_device.specs.Disk as disk
-use Rattle.acfg_memdev.proofs.Kept.{pushed, put_again, put_back, put_names, removed_file, removed_none, renamed, synced_file, synced_none, wrote_at, wrote_new, wrote_over}
-use Rattle.acfg_memdev.specs.Held.{change_of, file_of}
+use Rattle.acfg_memdev.proofs.Kept.{pushed, put_names, renamed}
+use Rattle.acfg_memdev.specs.Held.{change_of}
 use Rattle.acfg_memdev.specs.Slots.{disk_of, names_of}
-use Rattle.acfg_memdev.specs.declared.disk.Change.{Change}
-use Rattle.acfg_memdev.specs.declared.disk.Change.TheVariants.{Made, Moved, Removed}
-use Rattle.std.proofs.Common.{None, sym, subst}
+use Rattle.acfg_memdev.specs.declared.disk.Change.TheVariants.{Moved}
+use Rattle.std.proofs.Common.{None, sym}
 use Rattle.acfg_device.proofs.Naming.{update_apart}
 use Rattle.acfg_memdev.proofs.disk.rename.Goals as goal
 

@@ -1,14 +1,11 @@
-use Rattle.std.proofs.Common.{◌∷◌, List, Option, Some, ap, map, refl, reverse, ◌∙◌, string_bytes, ℕ}
+use Rattle.std.proofs.Common.{Option, Some, ap, refl, ◌∙◌}
 use Rattle.std.specs.Map.{update}
 use Rattle.std.specs.Str.{bytes_eq}
-use Rattle.acfg_device.specs.Calls.{new_file, overwritten, synced}
 use Rattle.acfg_device.specs.Disk as disk
-use Rattle.acfg_memdev.proofs.Kept.{pushed, put_again, put_back, put_names, removed_file, removed_none, renamed, synced_file, synced_none, wrote_at, wrote_new, wrote_over}
-use Rattle.acfg_memdev.specs.Held.{change_of, file_of}
-use Rattle.acfg_memdev.specs.Slots.{disk_of, names_of}
-use Rattle.acfg_memdev.specs.declared.disk.Change.{Change}
-use Rattle.acfg_memdev.specs.declared.disk.Change.TheVariants.{Made, Moved, Removed}
-use Rattle.std.proofs.Common.{◌≤◌, ◌+◌, length, IsSomeAnd, sym, subst, None}
+use Rattle.acfg_memdev.proofs.Kept.{put_again, put_back, wrote_at}
+use Rattle.acfg_memdev.specs.Held.{file_of}
+use Rattle.acfg_memdev.specs.Slots.{names_of}
+use Rattle.std.proofs.Common.{◌≤◌, ◌+◌, length, IsSomeAnd, sym, subst}
 use Rattle.acfg_memdev.proofs.disk.write_at.Goals as goal
 
 pub overwrite-requires : goal.overwrite-requires

@@ -1,5 +1,4 @@
-use Rattle.std.proofs.Common.{◌≡◌, false, is_some, rules, string_bytes, None, arith}
-use Rattle.std.specs.BTreeMap.{get_by_text}
+use Rattle.std.proofs.Common.{rules, string_bytes, None}
 use Rattle.acfg_memdev.proofs.Slotted.{names_stay, slots_stay}
 use Rattle.acfg_memdev.proofs.slots.make_slot.Goals as goal
 
