@@ -1,1 +1,4 @@
+pub mod Maps
 pub mod Names
+pub mod Places
+pub mod Release

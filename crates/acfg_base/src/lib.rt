@@ -1,8 +1,17 @@
-//! The names of flags, packages and containers, and what every layer says of them.
+//! The names of flags, packages and containers, the releases of their flags, and what every layer says of them.
 #![tactic(auto)]
 
+mod memory;
 mod names;
 mod order;
+mod parsed;
+mod releases;
 
+pub use memory::OutOfMemory;
 pub use names::{is_container, is_name, is_package};
 pub use order::one_order;
+pub use parsed::{ContainerName, Name, PackageName};
+pub use releases::{Entry, Kind, Release};
+
+#[cfg(test)]
+mod tests;

@@ -1,0 +1,160 @@
+//! Releases: which flags a container has, each with its kind and value.
+
+ghost use Rattle.std.specs.Prelude.{◌≡◌, ◌↔◌, IfOk, IfSome, IsNone, IsPermutation, IsSortedByKey, IsTrue};
+ghost use Rattle.std.specs.Bool.{MatchBool};
+ghost use Rattle.std.specs.FinMap.{get, len};
+ghost use Rattle.acfg_base.specs.Release.{key_of, key_cmp, release_of, entries_of, HasTwins, SomeStepDown};
+ghost use Rattle.acfg_base.specs.Places.{AreInOrder, IsPlace};
+
+use crate::memory::OutOfMemory;
+use crate::parsed::{Name, PackageName};
+use std::alloc::{AllocError, Global};
+use std::cmp::Ordering;
+use std::marker::Model;
+
+/// What may become of a flag's value on the device, as AOSP aconfig_storage_file's flag types.
+#[derive(Clone, Copy, Debug, PartialEq, Eq)]
+pub enum Kind {
+    /// An override may change it.
+    ReadWrite,
+    /// It is what the release says.
+    ReadOnly,
+    /// It is what the release says, and no build may declare it read-write.
+    Fixed,
+}
+
+/// A flag of a release.
+#[derive(Clone, Debug, Drop)]
+pub struct Entry {
+    pub package: PackageName,
+    pub flag: Name,
+    pub kind: Kind,
+    pub value: bool,
+}
+
+impl Entry {
+    /// How the entry's key stands to another one, by package bytes and then by flag bytes.
+    pub fn compare(&self, package: &str, flag: &str) -> Ordering
+        ensures { result ≡ key_cmp (key_of self.now) («package».now, flag.now) }
+    {
+        let packages = self.package.as_str().cmp(&package);
+        packages.then(self.flag.as_str().cmp(&flag))
+    }
+}
+
+/// The flags of a container. Contracts see a finite map from package and flag to kind and value.
+#[derive(Debug, Drop)]
+pub struct Release {
+    entries: Vec<Entry>,
+}
+
+impl Model for Release {
+    ghost use Rattle.acfg_base.specs.Places.{AreInOrder};
+    ghost use Rattle.acfg_base.specs.Release.{ReleaseMap, release_code, key_cmp, key_of, release_of};
+
+    ghost Value = { ReleaseMap };
+
+    ghost coded = { release_code };
+
+    ghost view = { λ release. release_of release.entries.items };
+
+    ghost invariant = { λ release. AreInOrder key_cmp key_of release.entries.items };
+}
+
+impl Release {
+    /// The release of these flags, in any order; none where two of them have one package and flag.
+    pub fn new(_alloc: Global, mut entries: Vec<Entry>) -> Result<Option<Release>, OutOfMemory>
+        ensures twins { IfOk result (λ release. IsNone release ↔ HasTwins entries.items) }
+        ensures flags { IfOk result (λ release. IfSome release (λ it. it ≡ release_of entries.items)) }
+    {
+        sort(&mut entries);
+        if !rise(&entries) {
+            return Ok(None);
+        }
+        Ok(Some(Release { entries }))
+    }
+
+    /// The release of flags in order of package bytes, then flag bytes. It takes no memory.
+    pub fn from_sorted(entries: Vec<Entry>) -> Release
+        requires { AreInOrder key_cmp key_of entries.items }
+        ensures { result ≡ release_of entries.items }
+    {
+        Release { entries }
+    }
+
+    /// How many flags the release has.
+    pub fn len(&self) -> usize
+        ensures { result ≡ len self.now }
+    {
+        self.entries.as_slice().len()
+    }
+
+    /// Whether the release has no flag.
+    pub fn is_empty(&self) -> bool
+        ensures { IsTrue result ↔ (len self.now ≡ 0) }
+    {
+        self.len() == 0
+    }
+
+    /// The flags in order of package bytes, then flag bytes, as a list that can be taken apart.
+    pub fn into_entries(self) -> Vec<Entry>
+        ensures all { result.items ≡ entries_of self }
+        ensures order { AreInOrder key_cmp key_of result.items }
+    {
+        let Release { entries } = self;
+        entries
+    }
+
+    /// The flags in order of package bytes, then flag bytes.
+    pub fn entries(&self) -> &[Entry]
+        ensures all { result.now ≡ entries_of self.now }
+        ensures order { AreInOrder key_cmp key_of result.now }
+    {
+        self.entries.as_slice()
+    }
+
+    /// A flag's kind and value, where the release has the flag.
+    pub fn get(&self, package: &str, flag: &str) -> Option<(Kind, bool)>
+        ensures { result ≡ get self.now («package».now, flag.now) }
+    {
+        match place(&self.entries, package, flag) {
+            Ok(at) => {
+                let entry = &self.entries[at];
+                Some((entry.kind, entry.value))
+            }
+            Err(_) => None,
+        }
+    }
+}
+
+impl Clone for Release {
+    ghost is_clone = { λ release copy. copy ≡ release };
+
+    fn clone(&self) -> Result<Release, AllocError> {
+        let entries = self.entries.clone()?;
+        Ok(Release { entries })
+    }
+}
+
+// Sorts entries by their keys.
+fn sort(entries: &mut Vec<Entry>)
+    ensures permutation { IsPermutation entries.old.items entries.new.items }
+    ensures sorted { IsSortedByKey key_of key_cmp entries.new.items }
+{
+    entries.sort_unstable_by(|a, b| a.compare(b.package.as_str(), b.flag.as_str()));
+}
+
+// Whether each entry's key is below the next one's.
+fn rise(entries: &[Entry]) -> bool
+    ensures { MatchBool result (AreInOrder key_cmp key_of entries.now) (SomeStepDown entries.now) }
+{
+    entries.is_sorted_by(|a, b| a.compare(b.package.as_str(), b.flag.as_str()).is_lt())
+}
+
+// Where a flag stands among entries in order, or where it would stand.
+fn place(entries: &[Entry], package: &str, flag: &str) -> Result<usize, usize>
+    requires { AreInOrder key_cmp key_of entries.now }
+    ensures { IsPlace key_cmp key_of entries.now («package».now, flag.now) result }
+{
+    entries.binary_search_by(|entry| entry.compare(package, flag))
+}
