@@ -1,0 +1,7 @@
+pub mod Carried
+pub mod Installed
+pub mod Kept
+pub mod Rowed
+pub mod Shown
+pub mod Tabled
+pub mod Valid

@@ -1,0 +1,309 @@
+//! The machine: its containers in order of their names, and what a request does to them.
+
+ghost use Rattle.std.specs.Prelude.{◌≡◌, ◌<◌, ◌^◌, None, IfOk, OnErr, map};
+ghost use Rattle.std.specs.Option.{ForSome};
+ghost use Rattle.std.specs.FinMap.{empty, get, len};
+ghost use Rattle.acfg_base.specs.Places.{AreInOrder, IsPlace};
+ghost use Rattle.acfg_model.specs.State.{IsValid, name_cmp};
+ghost use Rattle.acfg_model.specs.Step.{IsLoadedFor, IsRefused, Fits, booted_value, boot_map, change, get_reply, step, stored, updated, with_server, with_local, without_local};
+ghost use Rattle.acfg_model.specs.Machines.{name_of, state_of, booted_named, reply_of};
+
+use crate::boots::BootCopy;
+use crate::requests::{Loaded, Refusal, Reply, Request};
+use crate::tables::Table;
+use crate::views::State;
+use acfg_base::{ContainerName, OutOfMemory, Release};
+use std::alloc::{AllocError, Global};
+use std::marker::Model;
+
+// How many containers a device has at most.
+const MOST_CONTAINERS: usize = 256;
+
+/// A container and its name.
+#[derive(Debug, Drop)]
+pub struct Named {
+    pub name: ContainerName,
+    pub table: Table,
+}
+
+/// The plain machine. Contracts see a finite map from names to containers, which is always valid.
+#[derive(Debug, Drop)]
+pub struct Machine {
+    containers: Vec<Named>,
+}
+
+impl Model for Machine {
+    ghost use Rattle.acfg_model.specs.State.{State, state_code};
+    ghost use Rattle.acfg_model.specs.Machines.{state_of, IsKept};
+
+    ghost Value = { State };
+
+    ghost coded = { state_code };
+
+    ghost view = { λ machine. state_of machine.containers.items };
+
+    ghost invariant = { λ machine. IsKept machine.containers.items };
+}
+
+impl Machine {
+    /// A machine without containers, which keeps the allocator. It takes no memory.
+    pub fn new(alloc: Global) -> Machine
+        ensures { result ≡ empty }
+    {
+        Machine {
+            containers: Vec::new(alloc),
+        }
+    }
+
+    /// The value of a flag in the boot copy of a container, where there are all three. It takes no memory.
+    pub fn boot_value(&self, container: &str, package: &str, flag: &str) -> Option<bool>
+        ensures value { result ≡ booted_value self.now container.now («package».now, flag.now) }
+        ensures valid { IsValid self.now }
+    {
+        match place(&self.containers, container) {
+            Ok(at) => {
+                let named = &self.containers[at];
+                match named.table.boot_value(package, flag) {
+                    Ok(value) => value,
+                    Err(_) => None,
+                }
+            }
+            Err(_) => None,
+        }
+    }
+
+    /// The state, as lists in order.
+    pub fn view(&self, alloc: Global) -> Result<State, OutOfMemory>
+        ensures state { IfOk result (λ state. state ≡ self.now) }
+        ensures valid { IsValid self.now }
+    {
+        Ok(shown(alloc, &self.containers)?)
+    }
+
+    fn set_server(&mut self, name: &str, package: &str, flag: &str, value: bool) -> Reply
+        ensures { change self.old name.now (λ container. with_server container («package».now, flag.now) value)
+            ≡ (self.new, result) }
+    {
+        match place(&self.containers, name) {
+            Ok(at) => {
+                let named = &mut self.containers[at];
+                reply(named.table.set_server(package, flag, value))
+            }
+            Err(_) => Reply::Refused(Refusal::UnknownContainer.number()),
+        }
+    }
+
+    fn set_local(&mut self, name: &str, package: &str, flag: &str, value: bool) -> Reply
+        ensures { change self.old name.now (λ container. with_local container («package».now, flag.now) value)
+            ≡ (self.new, result) }
+    {
+        match place(&self.containers, name) {
+            Ok(at) => {
+                let named = &mut self.containers[at];
+                reply(named.table.set_local(package, flag, value))
+            }
+            Err(_) => Reply::Refused(Refusal::UnknownContainer.number()),
+        }
+    }
+
+    fn unset_local(&mut self, name: &str, package: &str, flag: &str) -> Reply
+        ensures { change self.old name.now (λ container. without_local container («package».now, flag.now))
+            ≡ (self.new, result) }
+    {
+        match place(&self.containers, name) {
+            Ok(at) => {
+                let named = &mut self.containers[at];
+                reply(named.table.unset_local(package, flag))
+            }
+            Err(_) => Reply::Refused(Refusal::UnknownContainer.number()),
+        }
+    }
+
+    fn get(&self, name: &str, package: &str, flag: &str) -> Reply
+        ensures { result ≡ get_reply self.now name.now («package».now, flag.now) }
+    {
+        match place(&self.containers, name) {
+            Ok(at) => {
+                let named = &self.containers[at];
+                match named.table.boot_value(package, flag) {
+                    Ok(value) => Reply::Value(value),
+                    Err(refusal) => Reply::Refused(refusal.number()),
+                }
+            }
+            Err(_) => Reply::Refused(Refusal::UnknownContainer.number()),
+        }
+    }
+
+    fn boot(&mut self, alloc: Global) -> Result<Reply, AllocError>
+        ensures ok { IfOk result (λ reply. step self.old Request.Boot None ≡ (self.new, reply)) }
+        ensures err { OnErr result (self.new ≡ self.old) }
+    {
+        let copies = boot_copies(alloc, &self.containers)?;
+        install(&mut self.containers, copies);
+        Ok(Reply::Fine)
+    }
+
+    fn update(
+        &mut self,
+        alloc: Global,
+        name: &ContainerName,
+        loaded: Option<Loaded>,
+    ) -> Result<Reply, AllocError>
+        requires { ForSome loaded Fits }
+        ensures ok { IfOk result (λ reply. updated self.old name.now loaded ≡ (self.new, reply)) }
+        ensures err { OnErr result (self.new ≡ self.old) }
+    {
+        match loaded {
+            Some(Loaded::Release(digest, release)) => self.store(alloc, name, digest, release),
+            Some(Loaded::Bad) => Ok(Reply::Refused(Refusal::BadImage.number())),
+            Some(Loaded::Disagree) => Ok(Reply::Refused(Refusal::FilesDisagree.number())),
+            Some(Loaded::Missing) | None => Ok(Reply::Refused(Refusal::MissingFile.number())),
+        }
+    }
+
+    fn store(
+        &mut self,
+        alloc: Global,
+        name: &ContainerName,
+        digest: [u8; 32],
+        release: Release,
+    ) -> Result<Reply, AllocError>
+        requires { len release < 2 ^ 32 }
+        ensures ok { let kept = get self.old name.now in
+            IfOk result (λ reply. stored self.old name.now digest release kept ≡ (self.new, reply)) }
+        ensures err { OnErr result (self.new ≡ self.old) }
+    {
+        let count = release.len() as u32;
+        match place(&self.containers, name.as_str()) {
+            Ok(at) => {
+                let named = &mut self.containers[at];
+                if named.table.digest() == digest {
+                    return Ok(Reply::Unchanged);
+                }
+                named.table.renew(alloc, digest, release)?;
+                Ok(Reply::Updated(digest, count))
+            }
+            Err(at) => {
+                if self.containers.as_slice().len() >= MOST_CONTAINERS {
+                    return Ok(Reply::Refused(Refusal::TooManyContainers.number()));
+                }
+                let table = Table::new(alloc, digest, release)?;
+                let name = name.clone()?;
+                self.containers.insert(at, Named { name, table })?;
+                Ok(Reply::Updated(digest, count))
+            }
+        }
+    }
+
+    fn answer(
+        &mut self,
+        alloc: Global,
+        request: &Request,
+        loaded: Option<Loaded>,
+    ) -> Result<Reply, AllocError>
+        requires { IsLoadedFor request.now loaded }
+        ensures ok { IfOk result (λ reply. step self.old request.now loaded ≡ (self.new, reply)) }
+        ensures err { OnErr result (self.new ≡ self.old) }
+    {
+        match request {
+            Request::Update { container, .. } => self.update(alloc, container, loaded),
+            Request::Server {
+                container,
+                package,
+                flag,
+                value,
+            } => Ok(self.set_server(container.as_str(), package.as_str(), flag.as_str(), *value)),
+            Request::Local {
+                container,
+                package,
+                flag,
+                value,
+            } => Ok(self.set_local(container.as_str(), package.as_str(), flag.as_str(), *value)),
+            Request::Unset {
+                container,
+                package,
+                flag,
+            } => Ok(self.unset_local(container.as_str(), package.as_str(), flag.as_str())),
+            Request::Boot => self.boot(alloc),
+            Request::Get {
+                container,
+                package,
+                flag,
+            } => Ok(self.get(container.as_str(), package.as_str(), flag.as_str())),
+        }
+    }
+
+    /// One step of the machine. An update comes with what was loaded for it, of at most 4,294,967,295 flags, and
+    /// nothing else comes with anything. A refusal of memory changes nothing.
+    pub fn step(
+        &mut self,
+        alloc: Global,
+        request: &Request,
+        loaded: Option<Loaded>,
+    ) -> Result<Reply, OutOfMemory>
+        requires { IsLoadedFor request.now loaded }
+        ensures ok { IfOk result (λ reply. step self.old request.now loaded ≡ (self.new, reply)) }
+        ensures refused { IfOk result (λ reply. IsRefused reply → self.new ≡ self.old) }
+        ensures err { OnErr result (self.new ≡ self.old) }
+        ensures valid { IsValid self.new }
+    {
+        let outcome = self.answer(alloc, request, loaded);
+        let _ = &self.containers;
+        match outcome {
+            Ok(reply) => Ok(reply),
+            Err(refused) => Err(refused.into()),
+        }
+    }
+}
+
+// The state of containers in order.
+fn shown(alloc: Global, containers: &[Named]) -> Result<State, AllocError>
+    requires { AreInOrder name_cmp name_of containers.now }
+    ensures { IfOk result (λ state. state ≡ state_of containers.now) }
+{
+    let mut states = Vec::with_capacity(alloc, containers.len())?;
+    for named in containers {
+        states.push(named.table.shown(alloc, &named.name)?)?;
+    }
+    Ok(State::from_sorted(states))
+}
+
+// The boot copies that a boot would make, one for each container.
+fn boot_copies(alloc: Global, containers: &[Named]) -> Result<Vec<BootCopy>, AllocError>
+    ensures { IfOk result (λ copies. copies.items ≡ map (λ named. boot_map named.table) containers.now) }
+{
+    let mut copies = Vec::with_capacity(alloc, containers.len())?;
+    for named in containers {
+        copies.push(named.table.boot_copy(alloc)?)?;
+    }
+    Ok(copies)
+}
+
+// Gives each container the boot copy that was made for it, from the last one back.
+fn install(containers: &mut Vec<Named>, mut copies: Vec<BootCopy>)
+    requires { copies.items ≡ map (λ named. boot_map named.table) containers.old.items }
+    ensures { containers.new.items ≡ map booted_named containers.old.items }
+{
+    while let Some(copy) = copies.pop() {
+        let named = &mut containers[copies.len()];
+        named.table.set_boot(copy);
+    }
+}
+
+// The reply to a change of one container.
+fn reply(outcome: Result<(), Refusal>) -> Reply
+    ensures { result ≡ reply_of outcome }
+{
+    match outcome {
+        Ok(()) => Reply::Fine,
+        Err(refusal) => Reply::Refused(refusal.number()),
+    }
+}
+
+// Where a container stands among containers in order, or where it would stand.
+fn place(containers: &[Named], name: &str) -> Result<usize, usize>
+    requires { AreInOrder name_cmp name_of containers.now }
+    ensures { IsPlace name_cmp name_of containers.now name.now result }
+{
+    containers.binary_search_by(|named| named.name.as_str().cmp(&name))
+}
