@@ -1,9 +1,7 @@
 //! `acfg`: the words behind the program's name go in, words said and a status come out.
 #![tactic(auto)]
 
-mod panel;
-
-use crate::panel::HostPanel;
+use acfg_hostdev::HostDevice;
 use acfg_top::run;
 use std::io::ErrorKind;
 use std::process::ExitCode;
@@ -17,12 +15,12 @@ const NO_WORDS: u8 = 6;
 
 fn main(rt: HostRuntime) -> ExitCode {
     let alloc = rt.alloc();
-    let mut panel = HostPanel::new(rt);
+    let mut device = HostDevice::new(rt, alloc);
     let status = match words(&rt) {
-        Ok(words) => run(alloc, &words, &mut panel),
+        Ok(words) => run(alloc, &words, &mut device),
         // A word that isn't UTF-8 is of no command.
         Err(fault) if fault.kind() == ErrorKind::InvalidData => {
-            run(alloc, &Vec::new(alloc), &mut panel)
+            run(alloc, &Vec::new(alloc), &mut device)
         }
         Err(fault) if fault.kind() == ErrorKind::OutOfMemory => NO_MEMORY,
         Err(_) => NO_WORDS,

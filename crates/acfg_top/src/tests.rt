@@ -1,75 +1,24 @@
-//! `run` over a small panel in memory.
-
-ghost use Rattle.std.specs.Prelude.{◌≡◌};
+//! `run` over the device in memory.
 
 use crate::run;
-use acfg_device::{Failed, Panel, ReadFault};
+use acfg_device::{Failed, OutOfMemory, Panel, ReadFault};
+use acfg_memdev::MemDevice;
 use std::alloc::{AllocError, Global};
 use std::test::Fail;
 
-// One file, the words said, and what fails.
-#[derive(Drop)]
-struct OneFile {
-    name: String,
-    bytes: Vec<u8>,
-    said: Vec<u8>,
-    // How many more bytes can be said.
-    room: usize,
-    // Whether a read fails.
-    broken: bool,
-    faults: u64,
-}
-
-impl Panel for OneFile {
-    ghost use Rattle.std.specs.Prelude.{true, Some, None, if◌then◌else◌};
-    ghost use Rattle.std.specs.Str.{bytes_eq};
-    ghost use Rattle.std.specs.Prelude.{string_bytes};
-
-    ghost tells = { true };
-
-    ghost files = { λ panel name. if bytes_eq name (string_bytes panel.name) then Some panel.bytes.items else None };
-
-    ghost said = { λ panel. panel.said.items };
-
-    ghost faults = { λ panel. panel.faults };
-
-    fn read(&mut self, alloc: Global, name: &str) -> Result<Option<Vec<u8>>, ReadFault> {
-        if self.broken {
-            self.faults = self.faults.saturating_add(1);
-            return Err(ReadFault::Failed);
-        }
-        if name != self.name.as_str() {
-            return Ok(None);
-        }
-        match Vec::from_slice(alloc, self.bytes.as_slice()) {
-            Ok(bytes) => Ok(Some(bytes)),
-            Err(_) => Err(ReadFault::OutOfMemory),
-        }
-    }
-
-    fn say(&mut self, bytes: &[u8]) -> Result<(), Failed> {
-        let room = bytes.len().min(self.room);
-        let (part, _rest) = bytes.split_at(room);
-        if self.said.extend_from_slice(part).is_ok() {
-            self.room -= room;
-            if room == bytes.len() {
-                return Ok(());
-            }
-        }
-        self.faults = self.faults.saturating_add(1);
-        Err(Failed)
-    }
-}
-
-fn one_file(alloc: Global, name: &str, text: &str) -> Result<OneFile, AllocError> {
-    Ok(OneFile {
-        name: String::from_str(alloc, name)?,
-        bytes: Vec::from_slice(alloc, text.as_bytes())?,
-        said: Vec::new(alloc),
-        room: 4096,
-        broken: false,
-        faults: 0,
-    })
+// A device with one file, whose calls of these numbers fail.
+fn device(
+    alloc: Global,
+    name: &str,
+    text: &str,
+    fails: Vec<u64>,
+) -> Result<MemDevice, OutOfMemory> {
+    let mut files = Vec::new(alloc);
+    files.push((
+        String::from_str(alloc, name)?,
+        Vec::from_slice(alloc, text.as_bytes())?,
+    ))?;
+    MemDevice::new(alloc, files, fails)
 }
 
 fn words(alloc: Global, texts: &[&str]) -> Result<Vec<String>, AllocError> {
@@ -86,6 +35,7 @@ const ONE_FLAG: &str =
 #[test]
 fn flags_are_listed_or_refused(rt: HostRuntime) -> Result<(), Fail> {
     let alloc = rt.alloc();
+    let asked = words(alloc, &["flags", "FILE"])?;
     let table = [
         (
             ONE_FLAG,
@@ -111,10 +61,9 @@ fn flags_are_listed_or_refused(rt: HostRuntime) -> Result<(), Fail> {
         ),
     ];
     for (text, status, said) in table {
-        let mut panel = one_file(alloc, "FILE", text)?;
-        let asked = words(alloc, &["flags", "FILE"])?;
-        assert_eq!(rt; run(alloc, &asked, &mut panel), status, "for {text:?}");
-        assert_eq!(rt; panel.said.as_slice(), said.as_bytes(), "for {text:?}");
+        let mut device = device(alloc, "FILE", text, Vec::new(alloc))?;
+        assert_eq!(rt; run(alloc, &asked, &mut device), status, "for {text:?}");
+        assert_eq!(rt; device.said(), said.as_bytes(), "for {text:?}");
     }
     Ok(())
 }
@@ -138,21 +87,79 @@ fn words_files_and_faults(rt: HostRuntime) -> Result<(), Fail> {
         ),
     ];
     for (texts, status, said) in &table {
-        let mut panel = one_file(alloc, "FILE", ONE_FLAG)?;
+        let mut device = device(alloc, "FILE", ONE_FLAG, Vec::new(alloc))?;
         let asked = words(alloc, texts)?;
-        assert_eq!(rt; run(alloc, &asked, &mut panel), *status, "for {texts:?}");
-        assert_eq!(rt; panel.said.as_slice(), said.as_bytes(), "for {texts:?}");
+        assert_eq!(rt; run(alloc, &asked, &mut device), *status, "for {texts:?}");
+        assert_eq!(rt; device.said(), said.as_bytes(), "for {texts:?}");
     }
 
+    // The read is call 0, and what is said is call 1.
     let asked = words(alloc, &["flags", "FILE"])?;
-    let mut panel = one_file(alloc, "FILE", ONE_FLAG)?;
-    panel.broken = true;
-    assert_eq!(rt; run(alloc, &asked, &mut panel), 4, "a read fails");
-    assert_eq!(rt; panel.said.len(), 0);
-
-    let mut panel = one_file(alloc, "FILE", ONE_FLAG)?;
-    panel.room = 7;
-    assert_eq!(rt; run(alloc, &asked, &mut panel), 4, "the words are cut off");
-    assert_eq!(rt; panel.said.as_slice(), b"com.exa".as_slice());
+    for call in [0, 1] {
+        let mut device = device(alloc, "FILE", ONE_FLAG, vec![in alloc; call]?)?;
+        assert_eq!(rt; run(alloc, &asked, &mut device), 4, "call {call} fails");
+        assert_eq!(rt; device.said().len(), 0, "call {call} fails");
+    }
     Ok(())
+}
+
+// A panel that takes so many bytes more and then fails.
+#[derive(Drop)]
+struct Narrow {
+    said: Vec<u8>,
+    room: usize,
+    faults: u64,
+}
+
+impl Panel for Narrow {
+    ghost use Rattle.std.specs.Prelude.{false, [], refl};
+    ghost use Rattle.acfg_device.proofs.Cuts.{settled_leaves, told_now};
+    ghost use Rattle.acfg_device.specs.Account.{untold};
+    ghost use Rattle.acfg_device.specs.Disk.{told};
+
+    ghost tells = { false };
+
+    ghost files = { λ panel. told untold.now };
+
+    ghost said = { λ panel. [] };
+
+    ghost account = { λ panel. untold };
+
+    ghost faults = { λ panel. panel.faults };
+
+    ghost files_told = { λ panel. refl };
+
+    ghost said_told = { λ panel. refl };
+
+    ghost told_now = { λ panel. told_now untold.now };
+
+    ghost settled_leaves = { λ panel files said. settled_leaves untold.now files said };
+
+    fn read(&mut self, _alloc: Global, _name: &str) -> Result<Option<Vec<u8>>, ReadFault> {
+        Ok(None)
+    }
+
+    fn say(&mut self, bytes: &[u8]) -> Result<(), Failed> {
+        let room = bytes.len().min(self.room);
+        let (part, _rest) = bytes.split_at(room);
+        if self.said.extend_from_slice(part).is_ok() {
+            self.room -= room;
+            if room == bytes.len() {
+                return Ok(());
+            }
+        }
+        self.faults = self.faults.saturating_add(1);
+        Err(Failed)
+    }
+}
+
+#[test]
+fn a_line_is_cut_off(rt: HostRuntime) {
+    let mut panel = Narrow {
+        said: Vec::new(rt.alloc()),
+        room: 7,
+        faults: 0,
+    };
+    assert_eq!(rt; crate::top::said(&mut panel, 0, "com.example.a.f1"), 4);
+    assert_eq!(rt; panel.said.as_slice(), b"com.exa".as_slice());
 }

@@ -10,7 +10,7 @@ use crate::flags::flags;
 use crate::stop::Stop;
 use crate::told::Told;
 use crate::words::{Command, read_command};
-use acfg_device::Panel;
+use acfg_device::{Device, Panel};
 use std::alloc::Global;
 
 const USAGE: &str = "usage: acfg COMMAND WORD..\n";
@@ -24,27 +24,27 @@ const USAGE: &str = "usage: acfg COMMAND WORD..\n";
 /// | 2 | `refused FILE: WHAT` | an input is missing, or is refused by its named condition |
 /// | 4 | nothing more | the outside failed |
 /// | 5 | nothing | memory was refused |
-pub fn run<P: Panel>(alloc: Global, words: &[String], panel: &mut P) -> u8
-    // Where the panel tells its files and words: a told status is that of the words' and files' outcome, and its words
+pub fn run<D: Device>(alloc: Global, words: &[String], dev: &mut D) -> u8
+    // Where the device tells its files and words: a told status is that of the words' and files' outcome, and its words
     // were said. Whatever the outcome is, the answer is its own.
-    ensures told { IsTrue P.tells → result ≢ 4 → result ≢ 5 → (outcome : Outcome) × Gives (map string_bytes words.now) (P.files panel.old) outcome
-        × (result ≡ status_for outcome) × (P.said panel.new ≡ P.said panel.old ++ said_for outcome) }
-    ensures exact { IsTrue P.tells → (outcome : Outcome) → Gives (map string_bytes words.now) (P.files panel.old) outcome
-        → Answers outcome result (P.faults panel.old) (P.faults panel.new) (P.said panel.old) (P.said panel.new) }
-    ensures files { P.files panel.new ≡ P.files panel.old }
+    ensures told { IsTrue D.tells → result ≢ 4 → result ≢ 5 → (outcome : Outcome) × Gives (map string_bytes words.now) (D.files dev.old) outcome
+        × (result ≡ status_for outcome) × (D.said dev.new ≡ D.said dev.old ++ said_for outcome) }
+    ensures exact { IsTrue D.tells → (outcome : Outcome) → Gives (map string_bytes words.now) (D.files dev.old) outcome
+        → Answers outcome result (D.faults dev.old) (D.faults dev.new) (D.said dev.old) (D.said dev.new) }
+    ensures files { D.files dev.new ≡ D.files dev.old }
 
-    // Of every panel.
+    // Of every device.
     ensures statuses { IsStatus result }
     ensures usage { ((command : _) → Asks (map string_bytes words.now) command → ⊥) → (result ≡ 1) ⊎ (result ≡ 4) }
     ensures command { (command : _) → Asks (map string_bytes words.now) command → result ≢ 1 }
-    ensures count { P.faults panel.old ≤ P.faults panel.new }
-    ensures failed { result ≡ 4 → Rose (P.faults panel.old) (P.faults panel.new) }
+    ensures count { D.faults dev.old ≤ D.faults dev.new }
+    ensures failed { result ≡ 4 → Rose (D.faults dev.old) (D.faults dev.new) }
 {
     let Some(command) = read_command(words) else {
-        return said(panel, 1, USAGE);
+        return said(dev, 1, USAGE);
     };
-    match carry_out(alloc, command, panel) {
-        Ok(told) => said(panel, told.status, told.text.as_str()),
+    match carry_out(alloc, command, dev) {
+        Ok(told) => said(dev, told.status, told.text.as_str()),
         Err(Stop::Failed) => 4,
         Err(Stop::OutOfMemory) => 5,
     }
@@ -65,7 +65,7 @@ fn carry_out<P: Panel>(alloc: Global, command: Command<'_>, panel: &mut P) -> Re
 }
 
 // The status, once its words are said.
-fn said<P: Panel>(panel: &mut P, status: u8, words: &str) -> u8
+pub(crate) fn said<P: Panel>(panel: &mut P, status: u8, words: &str) -> u8
     ensures told { IsTrue P.tells → Says status words.now result (P.faults panel.old) (P.faults panel.new) (P.said panel.old) (P.said panel.new) }
     ensures files { P.files panel.new ≡ P.files panel.old }
     ensures status { (result ≡ status) ⊎ (result ≡ 4) }
