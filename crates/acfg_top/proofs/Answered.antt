@@ -1,5 +1,5 @@
 -- What a run answers once a command told its outcome.
-use Rattle.std.proofs.Common.{◌≡◌, ℕ, ◌≤◌, List, [], ◌++◌, refl, sym, ◌∙◌, ap, subst, inl, inr, arith}
+use Rattle.std.proofs.Common.{◌≡◌, ℕ, ◌≤◌, List, ◌++◌, ◌∙◌, ap, subst, inl, inr, arith}
 use Rattle.acfg_device.specs.Panel.{Rose, SaysPart}
 use Rattle.acfg_top.specs.Outcome.{Outcome, Says, Answers, status_for, said_for}
 

@@ -1,4 +1,4 @@
-use Rattle.std.proofs.Common.{◌≡◌, refl, inl, string_bytes, subst, sym, ap, ◌∙◌, List, ℕ, Global}
+use Rattle.std.proofs.Common.{◌≡◌, subst, sym, ap, ◌∙◌, List, ℕ, Global}
 use Rattle.std.specs.Prelude.{IfOk, Option, Some, Vec}
 use Rattle.std.specs.Option.{option_map}
 use Rattle.acfg_top.specs.Outcome.{Outcome, FlagsGives}

@@ -1,6 +1,6 @@
-use Rattle.std.proofs.Common.{◌≡◌, sym, ap, ◌∙◌, subst, arith, take, take_all, get_or, map, [], ◌∷◌, ◌++◌, List, ℕ, Bor}
+use Rattle.std.proofs.Common.{sym, ap, ◌∙◌, subst, take, take_all, get_or, map, [], ◌++◌, List, ℕ, Bor}
 use Rattle.std.specs.List.{flat_map}
-use Rattle.std.specs.List.Sorted.{IsPermutation, IsSorted}
+use Rattle.std.specs.List.Sorted.{IsPermutation}
 use Rattle.std.proofs.lemmas.List.{flat_map_more, take_more}
 use Rattle.std.proofs.lemmas.List.Folds.{flat_map-map}
 use Rattle.acfg_top.specs.Outcome.{flag_line, IsShown}

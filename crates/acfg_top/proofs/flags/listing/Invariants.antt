@@ -1,4 +1,4 @@
-use Rattle.std.proofs.Common.{◌≡◌, map, take, string_bytes}
+use Rattle.std.proofs.Common.{◌≡◌, take, string_bytes}
 use Rattle.std.specs.List.{flat_map}
 use Rattle.acfg_top.specs.Outcome.{flag_line}
 use Rattle.acfg_top.proofs.flags.listing.Given as goal

@@ -1,4 +1,4 @@
-use Rattle.std.proofs.Common.{◌≡◌, List, ℕ, Bor, [], map, take, sym, ap, ◌∙◌, subst, arith, length, take_all, nat_cmp}
+use Rattle.std.proofs.Common.{List, ℕ, Bor, [], map, ap, ◌∙◌, subst, take_all, nat_cmp}
 use Rattle.std.specs.List.Sorted.{IsPermutation}
 use Rattle.std.specs.Cmp.Lexicographic.{slice_cmp}
 use Rattle.std.proofs.lemmas.List.Sorted.{IsPermutation-map}

@@ -1,4 +1,4 @@
-use Rattle.std.proofs.Common.{◌≡◌, refl, inl, inr, sym, ◌∙◌, ap, subst, [], ◌++◌, append-nil, Err}
+use Rattle.std.proofs.Common.{refl, inl, inr, sym, ◌∙◌, ap, [], append-nil, Err}
 use Rattle.acfg_top.specs.Outcome.{said_for}
 use Rattle.acfg_top.specs.Words.{command_of}
 use Rattle.acfg_top.proofs.Answered.{answered}
