@@ -1,0 +1,6 @@
+pub mod Clients
+pub mod Cuts
+pub mod Declared
+pub mod Going
+pub mod OneTranscript
+pub mod Words

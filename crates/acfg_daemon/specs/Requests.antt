@@ -1,0 +1,57 @@
+-- The text of each request: its words, with one space between each two.
+use Rattle.std.specs.Prelude.{◌≡◌, ℕ, ◌<◌, ◌≤◌, Bool, true, false, List, [], ◌∷◌, length, All, codes, Option, MatchOption}
+use Rattle.std.specs.List.{join_with_byte}
+use Rattle.std.specs.Str.{IsUtf8}
+use Rattle.acfg_base.specs.Names.{IsContainer, IsPackage, IsName}
+use Rattle.acfg_model.specs.declared.requests.Request.{Request}
+use Rattle.acfg_model.specs.declared.requests.Request.TheVariants.{Update, Server, Local, Unset, Boot, Get}
+
+abbrev pub space : ℕ
+space = 32
+
+-- the path of a directory: 1 to 1,024 bytes of UTF-8, none of them below 0x20 and, since it is one word, none a space
+pub record IsDirectory (path : List ℕ) : Type 0 where
+  pub some : 0 < length path
+  pub bound : length path ≤ 1024
+  pub text : IsUtf8 path
+  pub printable : All (λ byte. space < byte) path
+
+-- the names are names, and the directory is a path
+abbrev pub IsLawful : Request → Type 0
+IsLawful (Update name dir) = IsContainer name × IsDirectory dir
+IsLawful (Server name «package» flag value) = IsContainer name × IsPackage «package» × IsName flag
+IsLawful (Local name «package» flag value) = IsContainer name × IsPackage «package» × IsName flag
+IsLawful (Unset name «package» flag) = IsContainer name × IsPackage «package» × IsName flag
+IsLawful Boot = Unit {0}
+IsLawful (Get name «package» flag) = IsContainer name × IsPackage «package» × IsName flag
+
+-- a flag's value as a word
+abbrev pub value_word : Bool → List ℕ
+value_word true = codes "true"
+value_word false = codes "false"
+
+abbrev pub words_of : Request → List (List ℕ)
+words_of (Update name dir) = codes "update" ∷ name ∷ dir ∷ []
+words_of (Server name «package» flag value) = codes "server" ∷ name ∷ «package» ∷ flag ∷ value_word value ∷ []
+words_of (Local name «package» flag value) = codes "local" ∷ name ∷ «package» ∷ flag ∷ value_word value ∷ []
+words_of (Unset name «package» flag) = codes "unset" ∷ name ∷ «package» ∷ flag ∷ []
+words_of Boot = codes "boot" ∷ []
+words_of (Get name «package» flag) = codes "get" ∷ name ∷ «package» ∷ flag ∷ []
+
+-- the request's one text
+abbrev pub spelling : Request → List ℕ
+spelling request = join_with_byte space (words_of request)
+
+-- the text is that of a lawful request
+pub record Spells (text : List ℕ) (request : Request) : Type 0 where
+  pub lawful : IsLawful request
+  pub spelled : text ≡ spelling request
+
+-- the words are those of a lawful request
+pub record AreWords (words : List (List ℕ)) (request : Request) : Type 0 where
+  pub lawful : IsLawful request
+  pub same : words ≡ words_of request
+
+-- what is found is such a value, and there is none where nothing is found
+abbrev pub Finds : {A : Type 0} → (A → Type 0) → Option A → Type 0
+Finds {A} P found = MatchOption found ((x : A) → P x → ⊥) P

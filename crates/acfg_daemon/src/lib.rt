@@ -1,0 +1,16 @@
+//! Requests and replies as text, and scripts of requests.
+#![tactic(auto)]
+
+mod fault;
+mod lines;
+mod rehearsal;
+mod replies;
+mod requests;
+mod sources;
+#[cfg(test)]
+mod tests;
+
+pub use fault::DaemonFault;
+pub use rehearsal::{one_transcript, rehearse};
+pub use replies::reply_text;
+pub use requests::parse_request;

@@ -1,0 +1,134 @@
+//! Scripts answered by the plain machine in memory.
+
+ghost use Rattle.std.specs.Prelude.{◌≡◌, ◌≤◌, ◌++◌, ◌⊎◌, ℕ, List, Option, IfOk, OnOk, OnErr, IsTrue, Result};
+ghost use Rattle.std.specs.FinMap.{empty};
+ghost use Rattle.acfg_device.specs.Panel.{Files, Rose, SaysPart};
+ghost use Rattle.acfg_model.specs.State.{State};
+ghost use Rattle.acfg_daemon.specs.Lines.{lines};
+ghost use Rattle.acfg_daemon.specs.Replies.{IsNumbered};
+ghost use Rattle.acfg_daemon.specs.Transcript.{Transcript, Begins, BeginsLine, LineSays, Serves, bad_line};
+
+use crate::fault::DaemonFault;
+use crate::lines::{Arrived, read_line, split_line};
+use crate::replies::reply_text;
+use crate::requests::parse_request;
+use crate::sources::load;
+use acfg_device::Panel;
+use acfg_model::{Machine, Reply};
+use std::alloc::{AllocError, Global};
+
+// The numbers of the refusals that aren't the machine's.
+const BAD_REQUEST: u8 = 1;
+
+const TOO_LONG: u8 = 12;
+
+/// Answers a script on an empty machine in memory: one line said for each line of the script, after its step and
+/// before the next line is taken. An update reads `DIR/flags.aconfig`.
+///
+/// # Errors
+/// `Device` where the outside failed, and `OutOfMemory` where memory was refused. The lines before that one were
+/// answered whole.
+pub fn rehearse<P: Panel>(alloc: Global, panel: &mut P, script: &[u8]) -> Result<(), DaemonFault>
+    // Where the panel tells its files and words: with `Ok` the transcript was said; whatever ends the script, a first
+    // part of it was said, and a part of each transcript.
+    ensures told { IsTrue P.tells → OnOk result ((text : List ℕ) × Transcript (P.files panel.old) empty 1 (lines script.now) text × (P.said panel.new ≡ P.said panel.old ++ text)) }
+    ensures begun { IsTrue P.tells → (text : List ℕ) × Begins (P.files panel.old) empty 1 (lines script.now) text × (P.said panel.new ≡ P.said panel.old ++ text) }
+    ensures part { IsTrue P.tells → (text : List ℕ) → Transcript (P.files panel.old) empty 1 (lines script.now) text → SaysPart (P.said panel.old) (P.said panel.new) text }
+
+    // Of every panel.
+    ensures files { P.files panel.new ≡ P.files panel.old }
+    ensures count { P.faults panel.old ≤ P.faults panel.new }
+    ensures failed { result ≡ Err DaemonFault.Device → Rose (P.faults panel.old) (P.faults panel.new) }
+{
+    let mut machine = Machine::new(alloc);
+    let mut number = 0;
+    let mut rest = script;
+    while !rest.is_empty() {
+        let (line, behind) = split_line(rest);
+        number += 1;
+        take_line(alloc, panel, &mut machine, number, line)?;
+        rest = behind;
+    }
+    Ok(())
+}
+
+// Answers one line, and says the answer.
+fn take_line<P: Panel>(
+    alloc: Global,
+    panel: &mut P,
+    machine: &mut Machine,
+    number: usize,
+    line: &[u8],
+) -> Result<(), DaemonFault>
+    ensures ok { IsTrue P.tells → OnOk result ((said : List ℕ) × LineSays (P.files panel.old) machine.old number line.now machine.new said × (P.said panel.new ≡ P.said panel.old ++ said)) }
+    ensures err { IsTrue P.tells → OnErr result ((part : List ℕ) × BeginsLine (P.files panel.old) machine.old number line.now part × (P.said panel.new ≡ P.said panel.old ++ part)) }
+    ensures files { P.files panel.new ≡ P.files panel.old }
+    ensures count { P.faults panel.old ≤ P.faults panel.new }
+    ensures failed { result ≡ Err DaemonFault.Device → Rose (P.faults panel.old) (P.faults panel.new) }
+{
+    let reply = answer(alloc, panel, machine, number, line)?;
+    panel.say(&reply)?;
+    Ok(())
+}
+
+// The line that answers a line.
+fn answer<P: Panel>(
+    alloc: Global,
+    panel: &mut P,
+    machine: &mut Machine,
+    number: usize,
+    line: &[u8],
+) -> Result<Vec<u8>, DaemonFault>
+    ensures told { IsTrue P.tells → IfOk result (λ reply. LineSays (P.files panel.old) machine.old number line.now machine.new reply.items) }
+    ensures files { P.files panel.new ≡ P.files panel.old }
+    ensures said { P.said panel.new ≡ P.said panel.old }
+    ensures count { P.faults panel.old ≤ P.faults panel.new }
+    ensures failed { result ≡ Err DaemonFault.Device → Rose (P.faults panel.old) (P.faults panel.new) }
+{
+    match read_line(line) {
+        Arrived::BadLine => Ok(bad_line_text(alloc, number)?),
+        Arrived::TooLong(client) => Ok(reply_text(alloc, client, &Reply::Refused(TOO_LONG))?),
+        Arrived::Complete(client, text) => {
+            let reply = serve(alloc, panel, machine, text)?;
+            Ok(reply_text(alloc, client, &reply)?)
+        }
+    }
+}
+
+fn bad_line_text(alloc: Global, number: usize) -> Result<Vec<u8>, AllocError>
+    ensures { IfOk result (λ text. text.items ≡ bad_line number) }
+{
+    let text = format!(in alloc; "? bad-line {number}\n")?;
+    Ok(text.into_bytes())
+}
+
+// The reply to a request's text.
+fn serve<P: Panel>(
+    alloc: Global,
+    panel: &mut P,
+    machine: &mut Machine,
+    text: &[u8],
+) -> Result<Reply, DaemonFault>
+    ensures told { IsTrue P.tells → IfOk result (Serves (P.files panel.old) machine.old text.now machine.new) }
+    ensures numbered { IfOk result IsNumbered }
+    ensures files { P.files panel.new ≡ P.files panel.old }
+    ensures said { P.said panel.new ≡ P.said panel.old }
+    ensures count { P.faults panel.old ≤ P.faults panel.new }
+    ensures failed { result ≡ Err DaemonFault.Device → Rose (P.faults panel.old) (P.faults panel.new) }
+{
+    let Some(request) = parse_request(alloc, text)? else {
+        return Ok(Reply::Refused(BAD_REQUEST));
+    };
+    let loaded = load(alloc, panel, &request)?;
+    Ok(machine.step(alloc, &request, loaded)?)
+}
+
+/// A script has one transcript on the same files, and what begins it is a first part of it.
+pub fn one_transcript()
+    ensures same { (files : Files) (state : State) (number : ℕ) (lines : List (List ℕ)) (text other : List ℕ)
+        → Transcript files state number lines text → Transcript files state number lines other → text ≡ other }
+    ensures begins { (files : Files) (state : State) (number : ℕ) (lines : List (List ℕ)) (part text : List ℕ)
+        → Begins files state number lines part → Transcript files state number lines text → (rest : List ℕ) × (text ≡ part ++ rest) }
+    ensures whole { (files : Files) (state : State) (number : ℕ) (lines : List (List ℕ)) (text : List ℕ)
+        → Transcript files state number lines text → Begins files state number lines text }
+{}
