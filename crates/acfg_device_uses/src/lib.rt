@@ -3,7 +3,12 @@
 #![tactic(auto)]
 
 mod replaced;
+mod spoken;
 mod written;
 
 pub use replaced::replace_file;
+pub use spoken::say_all;
 pub use written::{NewFile, write_all};
+
+#[cfg(test)]
+mod tests;

@@ -9,6 +9,7 @@ ghost use Rattle.acfg_device_uses.specs.Written.{IsNameAmong};
 use acfg_device::{Device, Failed, Panel};
 
 /// A file to be written.
+#[derive(Drop)]
 pub struct NewFile {
     pub name: String,
     pub bytes: Vec<u8>,
