@@ -4,9 +4,8 @@ use Rattle.std.proofs.lemmas.List.{append-nil, drop_more}
 use Rattle.std.specs.declared.alloc.Global.{Global}
 use Rattle.acfg_device.specs.Account.{Account, moved_on}
 use Rattle.acfg_device.specs.Calls.{after_say}
-use Rattle.acfg_device.specs.Disk.{Change, Disk, KeepsSome, MayLeave, Names}
+use Rattle.acfg_device.specs.Disk.{Change, Disk, KeepsSome, Names}
 use Rattle.acfg_device.specs.Left.{LeavesSince}
-use Rattle.acfg_device.specs.Panel.{Files, SaysPart}
 use Rattle.acfg_device.proofs.Moments.{says_on, started}
 use Rattle.acfg_device_uses.specs.Spoken.{LeavesWords, joined}
 

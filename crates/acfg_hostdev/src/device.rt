@@ -1,10 +1,11 @@
 //! The device over the current folder.
 
-ghost use Rattle.std.specs.Prelude.{◌≡◌, ◌≤◌, ℕ, [], None, false, refl, OnOk, OnErr, MatchResult};
+ghost use Rattle.std.specs.Prelude.{◌≡◌, ◌≤◌, ◌+◌, ℕ, [], false, min, refl, MatchResult, OnErr};
 ghost use Rattle.acfg_device.proofs.Cuts.{settled_leaves, told_now};
 ghost use Rattle.acfg_device.specs.Account.{untold};
 ghost use Rattle.acfg_device.specs.Disk.{told};
-ghost use Rattle.acfg_device.specs.Panel.{Rose};
+ghost use Rattle.acfg_device.specs.Panel.{Rose, last_count};
+ghost use Rattle.acfg_hostdev.specs.Host.{CountsFailure, CountsFault};
 
 use crate::files::{
     Folders, HostFault, read_file, remove_file, rename_file, sync_file, sync_folders, write_file,
@@ -49,17 +50,16 @@ impl<R: Files + Print + Drop> HostDevice<R> {
 
     // Counts a failure. At its last value the count stands.
     fn count(&mut self)
+        ensures raised { self.new ≡ min (self.old + 1) last_count }
         ensures count { self.old ≤ self.new }
-        ensures rose { Rose self.old self.new }
     {
         self.faults = self.faults.saturating_add(1);
     }
 
     // Counts a failure, if it is one.
     fn counted(&mut self, done: Result<(), HostFault>) -> Result<(), Failed>
-        ensures ok { OnOk result (self.new ≡ self.old) }
+        ensures counted { CountsFailure result self.old self.new }
         ensures count { self.old ≤ self.new }
-        ensures rose { OnErr result (Rose self.old self.new) }
     {
         match done {
             Ok(()) => Ok(()),
@@ -91,7 +91,11 @@ impl<R: Files + Print + Drop> Panel for HostDevice<R> {
 
     ghost settled_leaves = { λ device files said. settled_leaves untold.now files said };
 
-    fn read(&mut self, alloc: Global, name: &str) -> Result<Option<Vec<u8>>, ReadFault> {
+    fn read(&mut self, alloc: Global, name: &str) -> Result<Option<Vec<u8>>, ReadFault>
+        ensures counted { MatchResult result (λ _. self.new ≡ self.old) (λ fault. CountsFault fault self.old self.new) }
+        ensures count { self.old ≤ self.new }
+        ensures failed { result ≡ Err ReadFault.Failed → Rose self.old self.new }
+    {
         match read_file(&self.rt, alloc, name) {
             Ok(found) => Ok(found),
             Err(HostFault::OutOfMemory) => Err(ReadFault::OutOfMemory),
@@ -102,7 +106,11 @@ impl<R: Files + Print + Drop> Panel for HostDevice<R> {
         }
     }
 
-    fn say(&mut self, bytes: &[u8]) -> Result<(), Failed> {
+    fn say(&mut self, bytes: &[u8]) -> Result<(), Failed>
+        ensures counted { CountsFailure result self.old self.new }
+        ensures count { self.old ≤ self.new }
+        ensures failed { OnErr result (Rose self.old self.new) }
+    {
         let done = write_whole(&mut io::writer(&self.rt), bytes);
         self.counted(done)
     }
@@ -110,32 +118,56 @@ impl<R: Files + Print + Drop> Panel for HostDevice<R> {
 
 /// `sync` and `sync_names` wait for the host's `fsync` of the file, and of each folder in which names changed.
 impl<R: Files + Print + Drop> Device for HostDevice<R> {
-    fn write(&mut self, name: &str, bytes: &[u8]) -> Result<(), Failed> {
+    fn write(&mut self, name: &str, bytes: &[u8]) -> Result<(), Failed>
+        ensures counted { CountsFailure result self.old self.new }
+        ensures count { self.old ≤ self.new }
+        ensures failed { OnErr result (Rose self.old self.new) }
+    {
         let done = write_file(&self.rt, &mut self.folders, self.alloc, name, bytes);
         self.counted(done)
     }
 
-    fn write_at(&mut self, name: &str, at: u64, bytes: &[u8]) -> Result<(), Failed> {
+    fn write_at(&mut self, name: &str, at: u64, bytes: &[u8]) -> Result<(), Failed>
+        ensures counted { CountsFailure result self.old self.new }
+        ensures count { self.old ≤ self.new }
+        ensures failed { OnErr result (Rose self.old self.new) }
+    {
         let done = write_file_at(&self.rt, name, at, bytes);
         self.counted(done)
     }
 
-    fn sync(&mut self, name: &str) -> Result<(), Failed> {
+    fn sync(&mut self, name: &str) -> Result<(), Failed>
+        ensures counted { CountsFailure result self.old self.new }
+        ensures count { self.old ≤ self.new }
+        ensures failed { OnErr result (Rose self.old self.new) }
+    {
         let done = sync_file(&self.rt, name);
         self.counted(done)
     }
 
-    fn rename(&mut self, from: &str, to: &str) -> Result<(), Failed> {
+    fn rename(&mut self, from: &str, to: &str) -> Result<(), Failed>
+        ensures counted { CountsFailure result self.old self.new }
+        ensures count { self.old ≤ self.new }
+        ensures failed { OnErr result (Rose self.old self.new) }
+    {
         let done = rename_file(&self.rt, &mut self.folders, self.alloc, from, to);
         self.counted(done)
     }
 
-    fn remove(&mut self, name: &str) -> Result<(), Failed> {
+    fn remove(&mut self, name: &str) -> Result<(), Failed>
+        ensures counted { CountsFailure result self.old self.new }
+        ensures count { self.old ≤ self.new }
+        ensures failed { OnErr result (Rose self.old self.new) }
+    {
         let done = remove_file(&self.rt, &mut self.folders, self.alloc, name);
         self.counted(done)
     }
 
-    fn sync_names(&mut self) -> Result<(), Failed> {
+    fn sync_names(&mut self) -> Result<(), Failed>
+        ensures counted { CountsFailure result self.old self.new }
+        ensures count { self.old ≤ self.new }
+        ensures failed { OnErr result (Rose self.old self.new) }
+    {
         let done = sync_folders(&self.rt, &mut self.folders);
         self.counted(done)
     }
