@@ -1,5 +1,5 @@
 -- Words and files have one outcome.
-use Rattle.std.proofs.Common.{◌≡◌, ℕ, List, map, Bool, true, false, refl, sym, ◌∙◌, ap, subst, inl, inr, ◌⊎◌}
+use Rattle.std.proofs.Common.{◌≡◌, ◌≢◌, ℕ, List, map, Bool, true, false, refl, sym, ◌∙◌, ap, subst, inl, inr, ◌⊎◌}
 use Rattle.std.specs.Prelude.{Option, None, Some, codes}
 use Rattle.std.specs.List.{flat_map}
 use Rattle.std.specs.Bool.{Decides}
@@ -7,11 +7,14 @@ use Rattle.std.specs.Str.{bytes_eq}
 use Rattle.std.proofs.lemmas.Bool.Decides.{not_from_Decides}
 use Rattle.std.proofs.lemmas.Slice.Eq.{bytes_eq-Decides}
 use Rattle.acfg_base.proofs.Sorting.{sorted_texts_unique}
+use Rattle.std.specs.FinMap.{empty}
+use Rattle.acfg_daemon.specs.Lines.{lines}
+use Rattle.acfg_daemon.proofs.OneTranscript.{one_transcript}
 use Rattle.acfg_device.specs.Panel.{Files}
 use Rattle.acfg_text.specs.declared.plain.Plain.{Plain}
 use Rattle.acfg_text.proofs.Unique.{reads_unique, refuses_unique, reads_or_refuses}
-use Rattle.acfg_top.specs.Words.{Command, Flags, Asks}
-use Rattle.acfg_top.specs.Outcome.{Outcome, Refused, Done, IsShown, Lists, flag_line, fault_words, FlagsGives, CommandGives, Gives}
+use Rattle.acfg_top.specs.Words.{Command, Flags, Rehearse, Asks}
+use Rattle.acfg_top.specs.Outcome.{Outcome, Usage, Refused, Done, IsShown, Lists, flag_line, fault_words, FlagsGives, RehearseGives, CommandGives, Gives}
 
 -- a fact that a test decides holds or fails
 holds_or_fails : {P : Type 0} (b : Bool) → Decides b P → P ⊎ ¬ P
@@ -43,12 +46,28 @@ flags_gives_unique file (Some bytes) a b (inr (place, what, refuses, is)) (inr (
     let same = refuses_unique bytes place other what fault refuses refuses_too in
     is ∙ (λ j. Refused file (fault_words (same.0 j) (same.1 j))) ∙ sym is_too
 
+-- a command that is asked for doesn't tell the usage
+pub flags_useful : (file : List ℕ) (found : Option (List ℕ)) (a : Outcome) → FlagsGives file found a → a ≢ Usage
+flags_useful file None a gives usage = let same = sym gives ∙ usage in cc
+flags_useful file (Some bytes) a (inl (plain, text, reads, lists, is)) usage = let same = sym is ∙ usage in cc
+flags_useful file (Some bytes) a (inr (place, what, refuses, is)) usage = let same = sym is ∙ usage in cc
+
+-- `rehearse SCRIPT` has one outcome
+pub rehearse_gives_unique : (script : List ℕ) (files : Files) (found : Option (List ℕ)) (a b : Outcome) → RehearseGives script files found a → RehearseGives script files found b → a ≡ b
+rehearse_gives_unique script files None a b gives also = gives ∙ sym also
+rehearse_gives_unique script files (Some bytes) a b (text, transcript, is) (other, transcript_too, is_too) =
+    is ∙ ap Done (one_transcript files empty 1 (lines bytes) text other transcript transcript_too) ∙ sym is_too
+
 -- words ask for one command
 pub asks_unique : (words : List (List ℕ)) (command other : Command) → Asks words command → Asks words other → command ≡ other
 asks_unique words (Flags file) (Flags path) asks also = let same = sym asks.0 ∙ also.0 in let files : file ≡ path = cc in ap Flags files
+asks_unique words (Rehearse file) (Rehearse path) asks also = let same = sym asks.0 ∙ also.0 in let files : file ≡ path = cc in ap Rehearse files
+asks_unique words (Flags file) (Rehearse path) asks also = let same = sym asks.0 ∙ also.0 in cc
+asks_unique words (Rehearse file) (Flags path) asks also = let same = sym asks.0 ∙ also.0 in cc
 
-command_gives_unique : (command : Command) (files : Files) (a b : Outcome) → CommandGives command files a → CommandGives command files b → a ≡ b
+pub command_gives_unique : (command : Command) (files : Files) (a b : Outcome) → CommandGives command files a → CommandGives command files b → a ≡ b
 command_gives_unique (Flags file) files a b gives also = flags_gives_unique file (files file) a b gives also
+command_gives_unique (Rehearse script) files a b gives also = rehearse_gives_unique script files (files script) a b gives also
 
 pub gives_unique : (words : List (List ℕ)) (files : Files) (a b : Outcome) → Gives words files a → Gives words files b → a ≡ b
 gives_unique words files a b (inl (command, asks, gives)) (inl (other, asks_too, gives_too)) =

@@ -4,13 +4,16 @@ use Rattle.std.specs.List.{flat_map}
 use Rattle.std.specs.List.Sorted.{IsPermutation, IsSorted}
 use Rattle.std.specs.Cmp.Lexicographic.{slice_cmp}
 use Rattle.std.specs.Ordering.{nat_cmp}
+use Rattle.std.specs.FinMap.{empty}
 use Rattle.std.specs.Fmt.{decimal}
 use Rattle.acfg_device.specs.Panel.{Files, Rose, SaysPart}
 use Rattle.acfg_text.specs.declared.plain.Plain.{Plain}
 use Rattle.acfg_text.specs.declared.plain.PlainWhat.{PlainWhat}
 use Rattle.acfg_text.specs.declared.plain.PlainWhat.TheVariants.{MissingField, BadName, Unbuilt}
 use Rattle.acfg_text.specs.Plain.{Reads, Refuses}
-use Rattle.acfg_top.specs.Words.{Command, Flags, Asks}
+use Rattle.acfg_daemon.specs.Lines.{lines}
+use Rattle.acfg_daemon.specs.Transcript.{Transcript}
+use Rattle.acfg_top.specs.Words.{Command, Flags, Rehearse, Asks}
 
 pub data Outcome : Type 0 where
   -- the words are of no command
@@ -68,8 +71,14 @@ FlagsGives file (Some bytes) outcome =
     ((plain : Plain) × (text : List ℕ) × Reads bytes plain × Lists plain text × (outcome ≡ Done text))
     ⊎ ((place : ℕ) × (what : PlainWhat) × Refuses bytes place what × (outcome ≡ Refused file (fault_words place what)))
 
+-- The outcome of `rehearse SCRIPT` for what is at SCRIPT: the transcript from the machine without containers.
+abbrev pub RehearseGives : List ℕ → Files → Option (List ℕ) → Outcome → Type 0
+RehearseGives script files None outcome = outcome ≡ Refused script (codes "missing")
+RehearseGives script files (Some bytes) outcome = (text : List ℕ) × Transcript files empty 1 (lines bytes) text × (outcome ≡ Done text)
+
 abbrev pub CommandGives : Command → Files → Outcome → Type 0
 CommandGives (Flags file) files outcome = FlagsGives file (files file) outcome
+CommandGives (Rehearse script) files outcome = RehearseGives script files (files script) outcome
 
 -- The outcome of words on files: that of the command they ask for, and usage where they ask for none.
 abbrev pub Gives : List (List ℕ) → Files → Outcome → Type 0
@@ -84,12 +93,26 @@ Says status words result faults_before faults_after said_before said_after =
     ((result ≡ status) × (said_after ≡ said_before ++ words))
     ⊎ ((result ≡ 4) × Rose faults_before faults_after × SaysPart said_before said_after words)
 
--- What a run answers for its outcome: the outcome is told, the outside failed, or memory was refused and nothing
--- was said; usage needs no memory.
+-- What a run answers for its outcome: the outcome is told, or the outside failed, or memory was refused, with a part
+-- of the words said; usage needs no memory.
 abbrev pub Answers : Outcome → ℕ → ℕ → ℕ → List ℕ → List ℕ → Type 0
 Answers outcome result faults_before faults_after said_before said_after =
     Says (status_for outcome) (said_for outcome) result faults_before faults_after said_before said_after
-    ⊎ ((result ≡ 5) × (outcome ≢ Usage) × (said_after ≡ said_before))
+    ⊎ ((result ≡ 5) × (outcome ≢ Usage) × SaysPart said_before said_after (said_for outcome))
+
+-- a status that isn't of a failure is that of an outcome, all of whose words were said
+abbrev pub IsTold : (Outcome → Type 0) → ℕ → List ℕ → List ℕ → Type 0
+IsTold gives result said_before said_after =
+    result ≢ 4 → result ≢ 5 → (outcome : Outcome) × gives outcome × (result ≡ status_for outcome) × (said_after ≡ said_before ++ said_for outcome)
+
+-- whatever the outcome is, the answer is its own
+abbrev pub IsExact : (Outcome → Type 0) → ℕ → ℕ → ℕ → List ℕ → List ℕ → Type 0
+IsExact gives result faults_before faults_after said_before said_after =
+    (outcome : Outcome) → gives outcome → Answers outcome result faults_before faults_after said_before said_after
+
+-- the statuses of a command
+abbrev pub IsCommandStatus : ℕ → Type 0
+IsCommandStatus status = (status ≡ 0) ⊎ (status ≡ 2) ⊎ (status ≡ 4) ⊎ (status ≡ 5)
 
 -- the statuses of a run
 abbrev pub IsStatus : ℕ → Type 0

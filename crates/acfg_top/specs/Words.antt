@@ -17,9 +17,13 @@ pub record IsPath (text : List ℕ) : Type 0 where
 pub data Command : Type 0 where
   -- `flags FILE`
   Flags : List ℕ → Command
+  -- `rehearse SCRIPT`
+  Rehearse : List ℕ → Command
 
 abbrev pub Asks : List (List ℕ) → Command → Type 0
 Asks words (Flags file) = (words ≡ codes "flags" ∷ file ∷ []) × IsPath file
+Asks words (Rehearse script) = (words ≡ codes "rehearse" ∷ script ∷ []) × IsPath script
 
 abbrev pub command_of : source.Command.Command → Command
 command_of (source.Command.TheVariants.Flags file) = Flags file.now
+command_of (source.Command.TheVariants.Rehearse script) = Rehearse script.now

@@ -6,17 +6,30 @@ ghost use Rattle.std.specs.List.Sorted.{IsPermutation, IsSorted};
 ghost use Rattle.std.specs.Cmp.Lexicographic.{slice_cmp};
 ghost use Rattle.std.specs.Ordering.{nat_cmp};
 ghost use Rattle.acfg_device.specs.Panel.{Rose};
-ghost use Rattle.acfg_top.specs.Outcome.{FlagsGives, Lists, IsShown, flag_line, Outcome};
+ghost use Rattle.acfg_top.specs.Outcome.{FlagsGives, IsTold, IsExact, IsCommandStatus, Lists, IsShown, flag_line, Outcome};
 ghost use Rattle.acfg_top.specs.Told.{Tells};
 
 use crate::stop::Stop;
-use crate::told::{Refusal, Told, refused};
+use crate::told::{Refusal, Told, refused, tell};
 use acfg_device::Panel;
 use acfg_text::{Plain, PlainFault, PlainFlag, read_plain};
 use std::alloc::{AllocError, Global};
 
-/// Reads one declarations file and lists its flags.
-pub fn flags<P: Panel>(alloc: Global, file: &str, panel: &mut P) -> Result<Told, Stop>
+/// Lists the flags of one declarations file, and answers the status.
+pub fn flags<P: Panel>(alloc: Global, file: &str, panel: &mut P) -> u8
+    ensures told { IsTrue P.tells → IsTold (FlagsGives file.now (P.files panel.old file.now)) result (P.said panel.old) (P.said panel.new) }
+    ensures exact { IsTrue P.tells → IsExact (FlagsGives file.now (P.files panel.old file.now)) result (P.faults panel.old) (P.faults panel.new) (P.said panel.old) (P.said panel.new) }
+    ensures status { IsCommandStatus result }
+    ensures files { P.files panel.new ≡ P.files panel.old }
+    ensures count { P.faults panel.old ≤ P.faults panel.new }
+    ensures failed { result ≡ 4 → Rose (P.faults panel.old) (P.faults panel.new) }
+{
+    let told = read_flags(alloc, file, panel);
+    tell(told, panel)
+}
+
+// What one declarations file has to tell.
+fn read_flags<P: Panel>(alloc: Global, file: &str, panel: &mut P) -> Result<Told, Stop>
     ensures told { IsTrue P.tells → IfOk result (λ told. (outcome : Outcome) × FlagsGives file.now (P.files panel.old file.now) outcome × Tells outcome told) }
     ensures status { IfOk result (λ told. (told.status ≡ 0) ⊎ (told.status ≡ 2)) }
     ensures files { P.files panel.new ≡ P.files panel.old }

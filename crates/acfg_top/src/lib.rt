@@ -2,6 +2,7 @@
 #![tactic(auto)]
 
 mod flags;
+mod rehearsal;
 mod stop;
 #[cfg(test)]
 mod tests;

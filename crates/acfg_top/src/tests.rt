@@ -6,19 +6,20 @@ use acfg_memdev::MemDevice;
 use std::alloc::{AllocError, Global};
 use std::test::Fail;
 
-// A device with one file, whose calls of these numbers fail.
+// A device with these files, whose calls of these numbers fail.
 fn device(
     alloc: Global,
-    name: &str,
-    text: &str,
+    files: &[(&str, &str)],
     fails: Vec<u64>,
 ) -> Result<MemDevice, OutOfMemory> {
-    let mut files = Vec::new(alloc);
-    files.push((
-        String::from_str(alloc, name)?,
-        Vec::from_slice(alloc, text.as_bytes())?,
-    ))?;
-    MemDevice::new(alloc, files, fails)
+    let mut held = Vec::new(alloc);
+    for (name, text) in files {
+        held.push((
+            String::from_str(alloc, name)?,
+            Vec::from_slice(alloc, text.as_bytes())?,
+        ))?;
+    }
+    MemDevice::new(alloc, held, fails)
 }
 
 fn words(alloc: Global, texts: &[&str]) -> Result<Vec<String>, AllocError> {
@@ -61,7 +62,7 @@ fn flags_are_listed_or_refused(rt: HostRuntime) -> Result<(), Fail> {
         ),
     ];
     for (text, status, said) in table {
-        let mut device = device(alloc, "FILE", text, Vec::new(alloc))?;
+        let mut device = device(alloc, &[("FILE", text)], Vec::new(alloc))?;
         assert_eq!(rt; run(alloc, &asked, &mut device), status, "for {text:?}");
         assert_eq!(rt; device.said(), said.as_bytes(), "for {text:?}");
     }
@@ -80,6 +81,8 @@ fn words_files_and_faults(rt: HostRuntime) -> Result<(), Fail> {
         (vec![in alloc; "flags", "a\tb"]?, 1, usage),
         (vec![in alloc; "flags", "FILE", "FILE"]?, 1, usage),
         (vec![in alloc; "flag", "FILE"]?, 1, usage),
+        (vec![in alloc; "rehearse"]?, 1, usage),
+        (vec![in alloc; "rehearse", "-"]?, 1, usage),
         (
             vec![in alloc; "flags", "other"]?,
             2,
@@ -87,7 +90,7 @@ fn words_files_and_faults(rt: HostRuntime) -> Result<(), Fail> {
         ),
     ];
     for (texts, status, said) in &table {
-        let mut device = device(alloc, "FILE", ONE_FLAG, Vec::new(alloc))?;
+        let mut device = device(alloc, &[("FILE", ONE_FLAG)], Vec::new(alloc))?;
         let asked = words(alloc, texts)?;
         assert_eq!(rt; run(alloc, &asked, &mut device), *status, "for {texts:?}");
         assert_eq!(rt; device.said(), said.as_bytes(), "for {texts:?}");
@@ -96,9 +99,46 @@ fn words_files_and_faults(rt: HostRuntime) -> Result<(), Fail> {
     // The read is call 0, and what is said is call 1.
     let asked = words(alloc, &["flags", "FILE"])?;
     for call in [0, 1] {
-        let mut device = device(alloc, "FILE", ONE_FLAG, vec![in alloc; call]?)?;
+        let mut device = device(alloc, &[("FILE", ONE_FLAG)], vec![in alloc; call]?)?;
         assert_eq!(rt; run(alloc, &asked, &mut device), 4, "call {call} fails");
         assert_eq!(rt; device.said().len(), 0, "call {call} fails");
+    }
+    Ok(())
+}
+
+#[test]
+fn a_script_is_rehearsed(rt: HostRuntime) -> Result<(), Fail> {
+    let alloc = rt.alloc();
+    let in_c =
+        "package: \"com.example.a\" container: \"c\" flag { name: \"f1\" namespace: \"ns\" description: \"d\" bug: \"1\" }";
+    let script = ("S", "0 update c rel1\n0 boot\n");
+    let updated =
+        "0 updated 0f6c18d9bc775991b67535e086d8cae978eda2af8eb94b1098061d5c001a4acf 1\n0 ok\n";
+    let table = [
+        (ONE_FLAG, "S", 0, "0 err 10 files-disagree\n0 ok\n"),
+        (in_c, "S", 0, updated),
+        (in_c, "T", 2, "refused T: missing\n"),
+    ];
+    for (text, name, status, said) in table {
+        let files = [script, ("rel1/flags.aconfig", text)];
+        let mut device = device(alloc, &files, Vec::new(alloc))?;
+        let asked = words(alloc, &["rehearse", name])?;
+        assert_eq!(rt; run(alloc, &asked, &mut device), status, "for {text:?}");
+        assert_eq!(rt; device.said(), said.as_bytes(), "for {text:?}");
+    }
+
+    // The script's read is call 0, the declarations' call 1, and the two lines are said in calls 2 and 3.
+    let asked = words(alloc, &["rehearse", "S"])?;
+    for (call, said) in [
+        (0, ""),
+        (1, ""),
+        (2, ""),
+        (3, &updated[..updated.len() - 5]),
+    ] {
+        let files = [script, ("rel1/flags.aconfig", in_c)];
+        let mut device = device(alloc, &files, vec![in alloc; call]?)?;
+        assert_eq!(rt; run(alloc, &asked, &mut device), 4, "call {call} fails");
+        assert_eq!(rt; device.said(), said.as_bytes(), "call {call} fails");
     }
     Ok(())
 }
@@ -160,6 +200,6 @@ fn a_line_is_cut_off(rt: HostRuntime) {
         room: 7,
         faults: 0,
     };
-    assert_eq!(rt; crate::top::said(&mut panel, 0, "com.example.a.f1"), 4);
+    assert_eq!(rt; crate::told::said(&mut panel, 0, "com.example.a.f1"), 4);
     assert_eq!(rt; panel.said.as_slice(), b"com.exa".as_slice());
 }

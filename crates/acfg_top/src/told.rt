@@ -1,9 +1,13 @@
 //! What a command tells: its status and its words.
 
-ghost use Rattle.std.specs.Prelude.{◌≡◌, string_bytes, IfOk};
-ghost use Rattle.acfg_top.specs.Outcome.{Refused, status_for, said_for};
+ghost use Rattle.std.specs.Prelude.{◌≡◌, ◌≢◌, ◌≤◌, ◌⊎◌, string_bytes, IfOk, IsTrue, MatchResult};
+ghost use Rattle.acfg_device.specs.Panel.{Rose};
+ghost use Rattle.acfg_top.specs.Outcome.{Refused, Says};
+ghost use Rattle.acfg_top.specs.Stop.{status_of};
 ghost use Rattle.acfg_top.specs.Told.{refusal_words, Tells};
 
+use crate::stop::Stop;
+use acfg_device::Panel;
 use acfg_text::PlainWhat;
 use std::alloc::{AllocError, Global};
 use std::fmt;
@@ -48,4 +52,33 @@ pub fn refused(alloc: Global, file: &str, refusal: Refusal) -> Result<Told, Allo
         status: 2,
         text: format!(in alloc; "refused {file}: {refusal}\n")?,
     })
+}
+
+/// Says what a command tells, and answers its status; 4 and 5 where it told nothing.
+pub fn tell<P: Panel>(told: Result<Told, Stop>, panel: &mut P) -> u8
+    ensures told { IsTrue P.tells → MatchResult told (λ told. Says told.status (string_bytes told.text) result (P.faults panel.old) (P.faults panel.new) (P.said panel.old) (P.said panel.new)) (λ _. P.said panel.new ≡ P.said panel.old) }
+    ensures status { MatchResult told (λ told. (result ≡ told.status) ⊎ (result ≡ 4)) (λ stop. result ≡ status_of stop) }
+    ensures files { P.files panel.new ≡ P.files panel.old }
+    ensures count { P.faults panel.old ≤ P.faults panel.new }
+    ensures failed { IfOk told (λ told. told.status ≢ 4 → result ≡ 4 → Rose (P.faults panel.old) (P.faults panel.new)) }
+{
+    match told {
+        Ok(told) => said(panel, told.status, told.text.as_str()),
+        Err(Stop::Failed) => 4,
+        Err(Stop::OutOfMemory) => 5,
+    }
+}
+
+/// Says the words of a status, and answers it; 4 where they can't be said.
+pub fn said<P: Panel>(panel: &mut P, status: u8, words: &str) -> u8
+    ensures told { IsTrue P.tells → Says status words.now result (P.faults panel.old) (P.faults panel.new) (P.said panel.old) (P.said panel.new) }
+    ensures files { P.files panel.new ≡ P.files panel.old }
+    ensures status { (result ≡ status) ⊎ (result ≡ 4) }
+    ensures count { P.faults panel.old ≤ P.faults panel.new }
+    ensures failed { status ≢ 4 → result ≡ 4 → Rose (P.faults panel.old) (P.faults panel.new) }
+{
+    match panel.say(words.as_bytes()) {
+        Ok(()) => status,
+        Err(_) => 4,
+    }
 }

@@ -8,6 +8,8 @@ ghost use Rattle.acfg_top.specs.Words.{IsPath, Asks, command_of};
 pub enum Command<'a> {
     /// `flags FILE`
     Flags(&'a str),
+    /// `rehearse SCRIPT`
+    Rehearse(&'a str),
 }
 
 /// What the words ask for, by position alone; nothing where they are of no command.
@@ -19,6 +21,9 @@ pub fn read_command<'a>(words: &'a [String]) -> Option<Command<'a>>
     match words {
         [name, file] if name.as_str() == "flags" && is_path(file.as_str()) => {
             Some(Command::Flags(file.as_str()))
+        }
+        [name, script] if name.as_str() == "rehearse" && is_path(script.as_str()) => {
+            Some(Command::Rehearse(script.as_str()))
         }
         _ => None,
     }
