@@ -1,5 +1,8 @@
 //! Calls on the host's files and folders.
 
+ghost use Rattle.std.specs.Prelude.{◌≡◌};
+ghost use Rattle.acfg_hostdev.specs.declared.files.HostFault.TheVariants.{Failed, OutOfMemory};
+
 use std::alloc::{AllocError, AllocFailed, Global};
 use std::fs::{File, OpenFile, OpenOptions};
 use std::io::{Error, ErrorKind, Read, Seek, SeekFrom, Write};
@@ -22,18 +25,24 @@ pub enum HostFault {
 }
 
 impl From<AllocError> for HostFault {
+    ghost from_gives = { λ _ fault. fault ≡ OutOfMemory };
+
     fn from(_refusal: AllocError) -> HostFault {
         HostFault::OutOfMemory
     }
 }
 
 impl<T: Drop> From<AllocFailed<T>> for HostFault {
+    ghost from_gives = { λ _ fault. fault ≡ OutOfMemory };
+
     fn from(_refusal: AllocFailed<T>) -> HostFault {
         HostFault::OutOfMemory
     }
 }
 
 impl From<Error> for HostFault {
+    ghost from_gives = { λ _ fault. fault ≡ Failed };
+
     fn from(_error: Error) -> HostFault {
         HostFault::Failed
     }
