@@ -1,75 +1,19 @@
-//! Requests, replies, and scripts over a small panel in memory.
-
-ghost use Rattle.std.specs.Prelude.{◌≡◌};
+//! Requests, replies, and scripts over the device in memory.
 
 use crate::{DaemonFault, parse_request, rehearse, reply_text};
-use acfg_device::{Failed, Panel, ReadFault};
+use acfg_memdev::MemDevice;
 use acfg_model::{Reply, Request};
 use std::alloc::{AllocError, Global};
 use std::test::Fail;
 
-// One file, the words said, and what fails.
-#[derive(Drop)]
-struct OneFile {
-    name: String,
-    bytes: Vec<u8>,
-    said: Vec<u8>,
-    // How many more bytes can be said.
-    room: usize,
-    // Whether a read fails.
-    broken: bool,
-    faults: u64,
-}
-
-impl Panel for OneFile {
-    ghost use Rattle.std.specs.Prelude.{true, Some, None, if◌then◌else◌, string_bytes};
-    ghost use Rattle.std.specs.Str.{bytes_eq};
-
-    ghost tells = { true };
-
-    ghost files = { λ panel name. if bytes_eq name (string_bytes panel.name) then Some panel.bytes.items else None };
-
-    ghost said = { λ panel. panel.said.items };
-
-    ghost faults = { λ panel. panel.faults };
-
-    fn read(&mut self, alloc: Global, name: &str) -> Result<Option<Vec<u8>>, ReadFault> {
-        if self.broken {
-            self.faults = self.faults.saturating_add(1);
-            return Err(ReadFault::Failed);
-        }
-        if name != self.name.as_str() {
-            return Ok(None);
-        }
-        match Vec::from_slice(alloc, self.bytes.as_slice()) {
-            Ok(bytes) => Ok(Some(bytes)),
-            Err(_) => Err(ReadFault::OutOfMemory),
-        }
-    }
-
-    fn say(&mut self, bytes: &[u8]) -> Result<(), Failed> {
-        let room = bytes.len().min(self.room);
-        let (part, _rest) = bytes.split_at(room);
-        if self.said.extend_from_slice(part).is_ok() {
-            self.room -= room;
-            if room == bytes.len() {
-                return Ok(());
-            }
-        }
-        self.faults = self.faults.saturating_add(1);
-        Err(Failed)
-    }
-}
-
-fn one_file(alloc: Global, text: &str) -> Result<OneFile, AllocError> {
-    Ok(OneFile {
-        name: String::from_str(alloc, "rel1/flags.aconfig")?,
-        bytes: Vec::from_slice(alloc, text.as_bytes())?,
-        said: Vec::new(alloc),
-        room: 4096,
-        broken: false,
-        faults: 0,
-    })
+// A device with one declarations file, whose calls of these numbers fail.
+fn one_file(alloc: Global, text: &str, fails: Vec<u64>) -> Result<MemDevice, Fail> {
+    let mut files = Vec::new(alloc);
+    files.push((
+        String::from_str(alloc, "rel1/flags.aconfig")?,
+        Vec::from_slice(alloc, text.as_bytes())?,
+    ))?;
+    Ok(MemDevice::new(alloc, files, fails)?)
 }
 
 // A request as its variant and its fields.
@@ -280,9 +224,9 @@ fn scripts_are_answered_line_by_line(rt: HostRuntime) -> Result<(), Fail> {
         ),
     ];
     for (source, script, said) in table {
-        let mut panel = one_file(alloc, source)?;
-        rehearse(alloc, &mut panel, script.as_bytes())?;
-        assert_eq!(rt; panel.said.as_slice(), said.as_bytes(), "for {script:?}");
+        let mut device = one_file(alloc, source, Vec::new(alloc))?;
+        rehearse(alloc, &mut device, script.as_bytes())?;
+        assert_eq!(rt; device.said(), said.as_bytes(), "for {script:?}");
     }
     Ok(())
 }
@@ -290,43 +234,35 @@ fn scripts_are_answered_line_by_line(rt: HostRuntime) -> Result<(), Fail> {
 #[test]
 fn scripts_of_any_bytes(rt: HostRuntime) -> Result<(), Fail> {
     let alloc = rt.alloc();
-    let mut panel = one_file(alloc, OWN)?;
-    rehearse(alloc, &mut panel, b"0 \xff\n\xff boot\n0 boot".as_slice())?;
+    let mut device = one_file(alloc, OWN, Vec::new(alloc))?;
+    rehearse(alloc, &mut device, b"0 \xff\n\xff boot\n0 boot".as_slice())?;
     let said = b"0 err 1 bad-request\n? bad-line 2\n0 ok\n";
-    assert_eq!(rt; panel.said.as_slice(), said.as_slice());
+    assert_eq!(rt; device.said(), said.as_slice());
 
     let mut script = String::from_str(alloc, "3 ")?;
     for _ in 0..4096 {
         script.push_str("a")?;
     }
-    let mut panel = one_file(alloc, OWN)?;
-    rehearse(alloc, &mut panel, script.as_bytes())?;
-    assert_eq!(rt; panel.said.as_slice(), b"3 err 1 bad-request\n".as_slice());
+    let mut device = one_file(alloc, OWN, Vec::new(alloc))?;
+    rehearse(alloc, &mut device, script.as_bytes())?;
+    assert_eq!(rt; device.said(), b"3 err 1 bad-request\n".as_slice());
     script.push_str("a")?;
-    let mut panel = one_file(alloc, OWN)?;
-    rehearse(alloc, &mut panel, script.as_bytes())?;
-    assert_eq!(rt; panel.said.as_slice(), b"3 err 12 too-long\n".as_slice());
+    let mut device = one_file(alloc, OWN, Vec::new(alloc))?;
+    rehearse(alloc, &mut device, script.as_bytes())?;
+    assert_eq!(rt; device.said(), b"3 err 12 too-long\n".as_slice());
     Ok(())
 }
 
 #[test]
 fn failures_end_a_script(rt: HostRuntime) -> Result<(), Fail> {
     let alloc = rt.alloc();
-    let script = "0 boot\n0 update c rel1\n0 boot\n";
-    let mut panel = one_file(alloc, OWN)?;
-    panel.broken = true;
-    assert_eq!(rt;
-        rehearse(alloc, &mut panel, script.as_bytes()),
-        Err(DaemonFault::Device)
-    );
-    assert_eq!(rt; panel.said.as_slice(), b"0 ok\n".as_slice());
-
-    let mut panel = one_file(alloc, OWN)?;
-    panel.room = 8;
-    assert_eq!(rt;
-        rehearse(alloc, &mut panel, script.as_bytes()),
-        Err(DaemonFault::Device)
-    );
-    assert_eq!(rt; panel.said.as_slice(), b"0 ok\n0 u".as_slice());
+    // The first line is said in call 0, the declarations are read in call 1, and the second line is said in call 2.
+    let script = b"0 boot\n0 update c rel1\n0 boot\n".as_slice();
+    for (call, said) in [(0, ""), (1, "0 ok\n"), (2, "0 ok\n")] {
+        let mut device = one_file(alloc, OWN, vec![in alloc; call]?)?;
+        let ended = rehearse(alloc, &mut device, script);
+        assert_eq!(rt; ended, Err(DaemonFault::Device), "call {call} fails");
+        assert_eq!(rt; device.said(), said.as_bytes(), "call {call} fails");
+    }
     Ok(())
 }
