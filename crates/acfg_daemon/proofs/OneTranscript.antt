@@ -14,7 +14,8 @@ use Rattle.acfg_text.proofs.Unique.{reads_unique, reads_or_refuses}
 use Rattle.acfg_daemon.specs.Requests.{value_word, words_of, Spells}
 use Rattle.acfg_daemon.specs.Replies.{reply_line}
 use Rattle.acfg_daemon.specs.Lines.{Event, Complete, TooLong, BadLine, IsEvent}
-use Rattle.acfg_daemon.specs.Sources.{BytesLoad, FileLoads, Loads, container_read, source_entries, source_path}
+use Rattle.acfg_text.specs.Containers.{container_read}
+use Rattle.acfg_daemon.specs.Sources.{BytesLoad, FileLoads, Loads, source_entries, source_path}
 use Rattle.acfg_daemon.specs.Transcript.{Serves, Says, LineSays, Transcript, Begins}
 use Rattle.acfg_daemon.proofs.Clients.{good_unique}
 use Rattle.acfg_daemon.proofs.Words.{words_from_spelled}

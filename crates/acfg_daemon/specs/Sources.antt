@@ -1,5 +1,5 @@
 -- What an update loads from a declarations file in the plain form.
-use Rattle.std.specs.Prelude.{◌≡◌, ◌≢◌, ℕ, ◌≤◌, false, List, ◌++◌, length, map, Option, Some, None, codes, bytes_eq, if◌then◌else◌}
+use Rattle.std.specs.Prelude.{◌≡◌, ◌≢◌, ℕ, ◌≤◌, false, List, ◌++◌, length, map, Option, Some, None, codes}
 use Rattle.std.specs.List.{AllByRecursion}
 use Rattle.sha2.specs.Sha256.{sha256}
 use Rattle.acfg_base.specs.declared.releases.Kind.TheVariants.{ReadWrite}
@@ -14,15 +14,12 @@ use Rattle.acfg_model.specs.declared.requests.Request.TheVariants.{Update, Serve
 use Rattle.acfg_text.specs.declared.plain.Plain.{Plain}
 use Rattle.acfg_text.specs.declared.plain.PlainFlag.{PlainFlag}
 use Rattle.acfg_text.specs.declared.plain.PlainWhat.{PlainWhat}
+use Rattle.acfg_text.specs.Containers.{container_read}
 use Rattle.acfg_text.specs.Plain.{Reads, Refuses}
 
 -- the declarations file of a directory
 abbrev pub source_path : List ℕ → List ℕ
 source_path dir = dir ++ codes "/flags.aconfig"
-
--- the container that a declarations file names: `system_ext` is read as `system`
-abbrev pub container_read : List ℕ → List ℕ
-container_read container = if bytes_eq container (codes "system_ext") then codes "system" else container
 
 -- a flag as it is declared in the plain form: READ_WRITE and DISABLED
 abbrev pub source_entry : List ℕ → PlainFlag → Entry

@@ -8,13 +8,13 @@ ghost use Rattle.acfg_base.specs.Release.{release_of};
 ghost use Rattle.acfg_device.specs.Panel.{Rose};
 ghost use Rattle.acfg_model.specs.Step.{Fits, IsLoadedFor};
 ghost use Rattle.acfg_text.specs.Plain.{Reads};
-ghost use Rattle.acfg_daemon.specs.Sources.{BytesLoad, FileLoads, Loads, container_read, source_entry, source_entries, source_path, AreDeclared};
+ghost use Rattle.acfg_daemon.specs.Sources.{BytesLoad, FileLoads, Loads, source_entry, source_entries, source_path, AreDeclared};
 
 use crate::fault::DaemonFault;
 use acfg_base::{Entry, Kind, Name, OutOfMemory, PackageName, Release};
 use acfg_device::Panel;
 use acfg_model::{Loaded, Request};
-use acfg_text::{Plain, PlainFault, PlainFlag, read_plain};
+use acfg_text::{Plain, PlainFault, PlainFlag, read_container, read_plain};
 use sha2::{Digest, Sha256};
 use std::alloc::{AllocError, Global};
 
@@ -93,17 +93,6 @@ fn load_plain(
     }
     let release = source_release(alloc, plain)?;
     Ok(Loaded::Release(Sha256::digest(bytes), release))
-}
-
-// The container that a declarations file names: `system_ext` is read as `system`.
-fn read_container(container: &str) -> &str
-    ensures { result.now ≡ container_read container.now }
-{
-    if container == "system_ext" {
-        "system"
-    } else {
-        container
-    }
 }
 
 // The flags of declarations, each read-write and disabled.

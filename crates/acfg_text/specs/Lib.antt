@@ -1,3 +1,4 @@
+pub mod Containers
 pub mod Form
 pub mod Plain
 pub mod Reader

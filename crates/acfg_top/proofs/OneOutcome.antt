@@ -1,38 +1,29 @@
 -- Words and files have one outcome.
 use Rattle.std.proofs.Common.{◌≡◌, ◌≢◌, ℕ, List, map, Bool, true, false, refl, sym, ◌∙◌, ap, subst, inl, inr, ◌⊎◌}
-use Rattle.std.specs.Prelude.{Option, None, Some, codes}
+use Rattle.std.specs.Prelude.{Option, None, Some}
 use Rattle.std.specs.List.{flat_map}
 use Rattle.std.specs.Bool.{Decides}
-use Rattle.std.specs.Str.{bytes_eq}
 use Rattle.std.proofs.lemmas.Bool.Decides.{not_from_Decides}
-use Rattle.std.proofs.lemmas.Slice.Eq.{bytes_eq-Decides}
 use Rattle.acfg_base.proofs.Sorting.{sorted_texts_unique}
 use Rattle.std.specs.FinMap.{empty}
 use Rattle.acfg_daemon.specs.Lines.{lines}
 use Rattle.acfg_daemon.proofs.OneTranscript.{one_transcript}
 use Rattle.acfg_device.specs.Panel.{Files}
 use Rattle.acfg_text.specs.declared.plain.Plain.{Plain}
+use Rattle.acfg_text.specs.Containers.{container_read}
 use Rattle.acfg_text.proofs.Unique.{reads_unique, refuses_unique, reads_or_refuses}
 use Rattle.acfg_top.specs.Words.{Command, Flags, Rehearse, Asks}
-use Rattle.acfg_top.specs.Outcome.{Outcome, Usage, Refused, Done, IsShown, Lists, flag_line, fault_words, FlagsGives, RehearseGives, CommandGives, Gives}
+use Rattle.acfg_top.specs.Outcome.{Outcome, Usage, Refused, Done, Lists, flag_line, fault_words, FlagsGives, RehearseGives, CommandGives, Gives}
 
 -- a fact that a test decides holds or fails
 holds_or_fails : {P : Type 0} (b : Bool) → Decides b P → P ⊎ ¬ P
 holds_or_fails true decides = inl (decides.0 refl)
 holds_or_fails false decides = inr (not_from_Decides false decides refl)
 
-one_shown : (container shown other : List ℕ) → IsShown container shown → IsShown container other → shown ≡ other
-one_shown container shown other is also =
-    elim (holds_or_fails (bytes_eq container (codes "system_ext")) (bytes_eq-Decides container (codes "system_ext"))) [
-      | inl extended ↦ is.extended extended ∙ sym (also.extended extended)
-      | inr differs ↦ is.other differs ∙ sym (also.other differs)
-    ]
-
 one_listing : (plain : Plain) (text other : List ℕ) → Lists plain text → Lists plain other → text ≡ other
 one_listing plain text other lists also =
     let names = sorted_texts_unique (map (λ flag. flag.name) plain.flags) lists.names also.names lists.same also.same lists.rising also.rising in
-    let container = one_shown plain.container lists.container also.container lists.shown also.shown in
-    lists.lines ∙ (λ j. flat_map (flag_line plain.package (container j)) (names j)) ∙ sym also.lines
+    lists.lines ∙ ap (flat_map (flag_line plain.package (container_read plain.container))) names ∙ sym also.lines
 
 -- `flags FILE` has one outcome
 pub flags_gives_unique : (file : List ℕ) (found : Option (List ℕ)) (a b : Outcome) → FlagsGives file found a → FlagsGives file found b → a ≡ b

@@ -10,6 +10,7 @@ use Rattle.acfg_device.specs.Panel.{Files, Rose, SaysPart}
 use Rattle.acfg_text.specs.declared.plain.Plain.{Plain}
 use Rattle.acfg_text.specs.declared.plain.PlainWhat.{PlainWhat}
 use Rattle.acfg_text.specs.declared.plain.PlainWhat.TheVariants.{MissingField, BadName, Unbuilt}
+use Rattle.acfg_text.specs.Containers.{container_read}
 use Rattle.acfg_text.specs.Plain.{Reads, Refuses}
 use Rattle.acfg_daemon.specs.Lines.{lines}
 use Rattle.acfg_daemon.specs.Transcript.{Transcript}
@@ -46,11 +47,6 @@ what_words Unbuilt = codes "unbuilt"
 abbrev pub fault_words : ℕ → PlainWhat → List ℕ
 fault_words place what = what_words what ++ codes " at " ++ decimal place
 
--- the container as it is printed: `system_ext` is read as `system`
-pub record IsShown (container shown : List ℕ) : Type 0 where
-  pub extended : container ≡ codes "system_ext" → shown ≡ codes "system"
-  pub other : container ≢ codes "system_ext" → shown ≡ container
-
 -- `PACKAGE.NAME [CONTAINER]: READ_WRITE + DISABLED`
 abbrev pub flag_line : List ℕ → List ℕ → List ℕ → List ℕ
 flag_line package_name container name = package_name ++ codes "." ++ name ++ codes " [" ++ container ++ codes "]: READ_WRITE + DISABLED" ++ line_feed
@@ -58,11 +54,9 @@ flag_line package_name container name = package_name ++ codes "." ++ name ++ cod
 -- one line a flag, in the order of their names' bytes
 pub record Lists (plain : Plain) (text : List ℕ) : Type 0 where
   pub names : List (List ℕ)
-  pub container : List ℕ
   pub same : IsPermutation (map (λ flag. flag.name) plain.flags) names
   pub rising : IsSorted (slice_cmp nat_cmp) names
-  pub shown : IsShown plain.container container
-  pub lines : text ≡ flat_map (flag_line plain.package container) names
+  pub lines : text ≡ flat_map (flag_line plain.package (container_read plain.container)) names
 
 -- the outcome of `flags FILE` for what is at FILE
 abbrev pub FlagsGives : List ℕ → Option (List ℕ) → Outcome → Type 0

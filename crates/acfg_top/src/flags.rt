@@ -6,13 +6,13 @@ ghost use Rattle.std.specs.List.Sorted.{IsPermutation, IsSorted};
 ghost use Rattle.std.specs.Cmp.Lexicographic.{slice_cmp};
 ghost use Rattle.std.specs.Ordering.{nat_cmp};
 ghost use Rattle.acfg_device.specs.Panel.{Rose};
-ghost use Rattle.acfg_top.specs.Outcome.{FlagsGives, IsTold, IsExact, IsCommandStatus, Lists, IsShown, flag_line, Outcome};
+ghost use Rattle.acfg_top.specs.Outcome.{FlagsGives, IsTold, IsExact, IsCommandStatus, Lists, flag_line, Outcome};
 ghost use Rattle.acfg_top.specs.Told.{Tells};
 
 use crate::stop::Stop;
 use crate::told::{Refusal, Told, refused, tell};
 use acfg_device::Panel;
-use acfg_text::{Plain, PlainFault, PlainFlag, read_plain};
+use acfg_text::{Plain, PlainFault, PlainFlag, read_container, read_plain};
 use std::alloc::{AllocError, Global};
 
 /// Lists the flags of one declarations file, and answers the status.
@@ -63,7 +63,7 @@ fn listing(alloc: Global, plain: &Plain) -> Result<String, AllocError>
     ensures { IfOk result (λ text. Lists plain.now (string_bytes text)) }
 {
     let package = plain.package.as_str();
-    let container = shown_container(plain.container.as_str());
+    let container = read_container(plain.container.as_str());
     let names = sorted_names(alloc, plain.flags.as_slice())?;
     let mut text = String::new(alloc);
     for name in &names {
@@ -96,15 +96,4 @@ fn sorted_names<'a>(alloc: Global, flags: &'a [PlainFlag]) -> Result<Vec<&'a str
     }
     names.sort()?;
     Ok(names)
-}
-
-// The container as it is printed: `system_ext` is read as `system`.
-fn shown_container(container: &str) -> &str
-    ensures { IsShown container.now result.now }
-{
-    if container == "system_ext" {
-        "system"
-    } else {
-        container
-    }
 }

@@ -1,4 +1,4 @@
-use Rattle.std.proofs.Common.{◌≡◌, refl, sym, ap, ◌∙◌, inl, ◌++◌}
+use Rattle.std.proofs.Common.{refl, sym, ap, ◌∙◌, inl, ◌++◌}
 use Rattle.std.specs.FinMap.{empty}
 use Rattle.acfg_daemon.specs.Lines.{lines}
 use Rattle.acfg_daemon.proofs.OneTranscript.{one_transcript}
