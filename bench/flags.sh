@@ -20,9 +20,9 @@ declarations() {
     }'
 }
 
-# seconds FILE: the fastest of five runs, in seconds
+# seconds FILE: the fastest of nine runs, in seconds
 seconds() {
-    for _ in 1 2 3 4 5; do
+    for _ in 1 2 3 4 5 6 7 8 9; do
         begin=$(date +%s%N)
         "$program" flags "$1" >said
         end=$(date +%s%N)
