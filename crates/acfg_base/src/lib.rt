@@ -6,12 +6,14 @@ mod names;
 mod order;
 mod parsed;
 mod releases;
+mod text;
 
 pub use memory::OutOfMemory;
 pub use names::{is_container, is_name, is_package};
 pub use order::one_order;
 pub use parsed::{ContainerName, Name, PackageName};
 pub use releases::{Entry, Kind, Release};
+pub use text::Text;
 
 #[cfg(test)]
 mod tests;
