@@ -6,6 +6,7 @@ mod names;
 mod order;
 mod parsed;
 mod releases;
+mod sequence;
 mod text;
 
 pub use memory::OutOfMemory;
@@ -13,6 +14,7 @@ pub use names::{is_container, is_name, is_package};
 pub use order::one_order;
 pub use parsed::{ContainerName, Name, PackageName};
 pub use releases::{Entry, Kind, Release};
+pub use sequence::Sequence;
 pub use text::Text;
 
 #[cfg(test)]
