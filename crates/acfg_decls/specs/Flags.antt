@@ -1,0 +1,36 @@
+-- Compiled flags: their order, and what a list of them has to keep. AOSP aconfig, `aconfig_internal.proto`.
+use Rattle.std.specs.Prelude.{◌≡◌, ◌⊎◌, ℕ, ◌+◌, ◌<◌, List, ◌∷◌, ◌++◌, length, slice_index_or, count_by, IsTrue, false, All, Any}
+use Rattle.std.specs.declared.cmp.Ordering.{Ordering}
+use Rattle.std.specs.Ordering.{nat_cmp, eq_by_cmp, is_lt}
+use Rattle.std.specs.Cmp.Lexicographic.{slice_cmp}
+use Rattle.acfg_base.specs.Places.{AreInOrder}
+use Rattle.acfg_decls.specs.declared.flags.Flag.{Flag}
+
+abbrev pub dot : ℕ
+dot = 46
+
+-- `package.name`
+abbrev pub full_name : Flag → List ℕ
+full_name flag = flag.package ++ dot ∷ flag.name
+
+-- a flag that a list of compiled flags may hold: not both fixed and writable, and with a point
+pub record IsLawful (flag : Flag) : Type 0 where
+  pub straight : IsTrue flag.fixed → IsTrue flag.writable → ⊥
+  pub traced : 0 < length flag.trace
+
+-- compiled flags: lawful ones, in the strict order of the bytes of `package.name`
+pub record AreFlags (list : List Flag) : Type 0 where
+  pub sorted : AreInOrder (slice_cmp nat_cmp) full_name list
+  pub each : All IsLawful list
+
+-- two flags of one name
+abbrev pub HasTwins : List Flag → Type 0
+HasTwins list = (name : List ℕ) × (1 < count_by (λ flag. eq_by_cmp (slice_cmp nat_cmp) name (full_name flag)) list)
+
+-- no order makes this a list of compiled flags
+abbrev pub AreNoFlags : List Flag → Type 0
+AreNoFlags list = HasTwins list ⊎ Any (λ flag. IsLawful flag → ⊥) list
+
+-- some row's key isn't below the next one's
+abbrev pub SomeStepDown : {K Y : Type 0} → (K → K → Ordering) → (Y → K) → List Y → Type 0
+SomeStepDown {K} {Y} cmp key list = (k : ℕ) × (k + 1 < length list) × ((d : Y) → is_lt (cmp (key (slice_index_or list k d)) (key (slice_index_or list (k + 1) d))) ≡ false)
