@@ -1,3 +1,5 @@
 mod Blank
 mod Fronts
+mod Named
+mod Tested
 mod Twins

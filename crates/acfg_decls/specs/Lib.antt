@@ -1,2 +1,4 @@
+pub mod Compile
 pub mod Flags
+pub mod Places
 pub mod Releases

@@ -1,7 +1,15 @@
 //! Declarations of flags and the values that builds set, compiled as AOSP aconfig compiles them.
 #![tactic(auto)]
 
+mod compile;
+mod declared;
+mod declaring;
+mod faults;
 mod flags;
 mod order;
+mod own;
 
+pub use declared::{Declarations, Values};
+pub use faults::{CompileFault, DeclFault, DeclWhat};
 pub use flags::{Flag, Flags, Point, Purpose};
+pub use own::read_container;

@@ -1,0 +1,19 @@
+-- Words of private functions: the places of flags by their names.
+use Rattle.std.specs.Prelude.{◌≡◌, ℕ, ◌<◌, List, [], length, map, slice_index_or, Option, Some}
+use Rattle.std.specs.Borrow.{Bor}
+use Rattle.std.specs.BTreeMap.{BTreeMap, get_by}
+use Rattle.std.specs.Cmp.Lexicographic.{slice_cmp}
+use Rattle.std.specs.Ordering.{nat_cmp}
+use Rattle.acfg_decls.specs.declared.flags.Flag.{Flag}
+
+abbrev pub names : List Flag → List (List ℕ)
+names flags = map (λ flag. flag.name) flags
+
+-- what a map has at these bytes
+abbrev pub at : BTreeMap (Bor (List ℕ)) ℕ → List ℕ → Option ℕ
+at places bytes = get_by (λ key. slice_cmp nat_cmp bytes key.now) places
+
+-- The map finds each of these names at its place, and nothing else.
+pub record Finds (places : BTreeMap (Bor (List ℕ)) ℕ) (names : List (List ℕ)) : Type 0 where
+  pub there : (i : ℕ) → i < length names → at places (slice_index_or names i []) ≡ Some i
+  pub only : (bytes : List ℕ) (i : ℕ) → at places bytes ≡ Some i → (i < length names) × (slice_index_or names i [] ≡ bytes)
