@@ -1,5 +1,7 @@
--- A flag that stands where a list has none.
-use Rattle.std.proofs.Common.{[], false, None}
+-- Flags that stand where a list has none.
+use Rattle.std.proofs.Common.{ℕ, List, [], false, None}
+use Rattle.acfg_decls.specs.declared.declared.Placed.{Placed}
+use Rattle.acfg_decls.specs.declared.declared.DeclaredFlag.{DeclaredFlag}
 use Rattle.acfg_decls.specs.declared.flags.Flag.{Flag}
 
 abbrev pub blank : Flag
@@ -17,3 +19,8 @@ blank = record {
   container = [];
   purpose = None;
 }
+
+abbrev pub blank_declared : List ℕ × DeclaredFlag
+blank_declared =
+    let placed : Placed = record { place = 0; text = [] } in
+    ([], record { place = 0; name = placed; namespace = placed; description = placed; bugs = []; fixed = false; exported = false; purpose = None })

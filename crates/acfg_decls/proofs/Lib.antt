@@ -1,5 +1,7 @@
+mod Applied
 mod Blank
 mod Fronts
 mod Named
 mod Tested
 mod Twins
+mod Valued

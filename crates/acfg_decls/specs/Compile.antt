@@ -47,11 +47,10 @@ abbrev pub last_of : Point → List Point → Point
 last_of point [] = point
 last_of point (next ∷ rest) = last_of next rest
 
--- the flag that a declaration of this source makes with these values: its last point says what it is
-abbrev pub flag_of : List ℕ → List ℕ → List (List ℕ × FlagValue) → List ℕ × DeclaredFlag → Flag
-flag_of «package» container values declared =
+-- the flag of a declaration with these points behind its first: its last point says what it is
+abbrev pub flag_with : List ℕ → List ℕ → List ℕ × DeclaredFlag → List Point → Flag
+flag_with «package» container declared more =
     let first = start declared.0 declared.1 in
-    let more = points «package» declared.1.name.text values in
     record {
       «package» = «package»;
       name = declared.1.name.text;
@@ -66,6 +65,10 @@ flag_of «package» container values declared =
       container = container;
       purpose = declared.1.purpose;
     }
+
+-- the flag that a declaration makes with these values
+abbrev pub flag_of : List ℕ → List ℕ → List (List ℕ × FlagValue) → List ℕ × DeclaredFlag → Flag
+flag_of «package» container values declared = flag_with «package» container declared (points «package» declared.1.name.text values)
 
 -- the declared flags, each with the source of its file
 abbrev pub declared : List DeclarationsFile → List (List ℕ × DeclaredFlag)

@@ -8,6 +8,7 @@ mod faults;
 mod flags;
 mod order;
 mod own;
+mod setting;
 
 pub use declared::{Declarations, Values};
 pub use faults::{CompileFault, DeclFault, DeclWhat};
