@@ -1,7 +1,7 @@
 -- Tests one after another, and the first that fails.
 use Rattle.std.proofs.Common.{◌≡◌, ℕ, suc, ◌+◌, ◌<◌, List, [], ◌∷◌, ◌++◌, length, map, take, drop, drop-cons, get_or, add-one, append_assoc, sym, ap, ◌∙◌, inl, inr}
 use Rattle.std.proofs.lemmas.List.{map-append, map_more}
-use Rattle.std.specs.List.{AllByRecursion}
+use Rattle.std.specs.List.{AllByRecursion, flat_map}
 use Rattle.acfg_decls.specs.declared.faults.DeclWhat.{DeclWhat}
 use Rattle.acfg_decls.specs.declared.faults.DeclFault.{DeclFault}
 use Rattle.acfg_decls.specs.declared.faults.DeclFault.TheVariants.{At, OutOfMemory}
@@ -57,3 +57,13 @@ pub made_next : (make : DeclaredFlag → Flag) (before flags more : List Flag) (
 made_next make before flags more declared i flag within is old new =
     new ∙ ap (λ fs. fs ++ make flag ∷ []) old ∙ append_assoc before (map make (take i declared)) (make flag ∷ [])
     ∙ ap (λ fs. before ++ fs) (ap (λ f. map make (take i declared) ++ make f ∷ []) is ∙ sym (map_more make declared i flag within))
+
+-- the tests of the item at a place, and of those behind it
+pub flat_next : {X : Type 0} (tests : X → List Test) (xs : List X) (i : ℕ) (x : X) → i < length xs → x ≡ get_or xs i x → flat_map tests (drop i xs) ≡ tests x ++ flat_map tests (drop (i + 1) xs)
+flat_next tests xs i x within is =
+    ap (flat_map tests) (drop-cons xs i x within ∙ ap (λ y. y ∷ drop (suc i) xs) (sym is)) ∙ ap (λ rest. tests x ++ flat_map tests rest) (ap (λ n. drop n xs) (sym (add-one i)))
+
+-- the first few items made into others, and one more
+pub more_next : {X Y : Type 0} (make : X → Y) (before : List Y) (xs : List X) (i : ℕ) (x : X) → i < length xs → x ≡ get_or xs i x → (before ++ map make (take i xs)) ++ make x ∷ [] ≡ before ++ map make (take (i + 1) xs)
+more_next make before xs i x within is =
+    append_assoc before (map make (take i xs)) (make x ∷ []) ∙ ap (λ ys. before ++ ys) (ap (λ y. map make (take i xs) ++ make y ∷ []) is ∙ sym (map_more make xs i x within))
