@@ -1,5 +1,6 @@
 mod Applied
 mod Blank
+mod Files
 mod Fronts
 mod Named
 mod Tested

@@ -223,3 +223,8 @@ IfIn OutOfMemory P = Unit {0}
 abbrev pub IfAt : DeclFault → (ℕ → DeclWhat → Type 0) → Type 0
 IfAt (At place fault) P = P place fault
 IfAt NoMemory P = Unit {0}
+
+-- a fault of a file, in the file of this position
+abbrev pub in_file : ℕ → DeclFault → CompileFault
+in_file number (At place fault) = In number place fault
+in_file number NoMemory = OutOfMemory

@@ -41,6 +41,21 @@ pub enum DeclFault {
     OutOfMemory,
 }
 
+impl DeclFault {
+    ghost use Rattle.std.specs.Prelude.{◌≡◌};
+    ghost use Rattle.acfg_decls.specs.Compile.{in_file};
+
+    /// The fault in the file of this position.
+    pub fn in_file(self, number: usize) -> CompileFault
+        ensures { result ≡ in_file number self }
+    {
+        match self {
+            DeclFault::At(place, what) => CompileFault::In(number, place, what),
+            DeclFault::OutOfMemory => CompileFault::OutOfMemory,
+        }
+    }
+}
+
 impl From<AllocError> for DeclFault {
     ghost use Rattle.std.specs.Prelude.{◌≡◌};
     ghost use Rattle.acfg_decls.specs.declared.faults.DeclFault.TheVariants.{OutOfMemory};
