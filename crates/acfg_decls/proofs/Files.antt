@@ -12,6 +12,9 @@ use Rattle.acfg_decls.specs.declared.declared.ValuesFile.{ValuesFile}
 use Rattle.acfg_decls.specs.declared.faults.DeclWhat.{DeclWhat}
 use Rattle.acfg_decls.specs.declared.faults.DeclFault.{DeclFault}
 use Rattle.acfg_decls.specs.declared.faults.DeclFault.TheVariants.{At, OutOfMemory}
+use Rattle.acfg_decls.specs.declared.faults.CompileFault.{CompileFault}
+use Rattle.acfg_decls.specs.declared.faults.CompileFault.TheVariants as compile
+use Rattle.acfg_decls.specs.declared.faults.CompileFault.TheVariants.{In}
 use Rattle.acfg_decls.specs.Compile.{Test, Holds, FirstFails, FirstFailsIn, IfAt, IfIn, declarations_tests, declared, flag_of, flag_tests, header_tests, file_tests, in_file, names_of, sourced}
 use Rattle.acfg_decls.specs.Places.{WhereMade, names}
 
@@ -102,3 +105,7 @@ values_fail OutOfMemory «package» before now first number more files i file wi
 -- a file that was read of the item at a place is that item
 pub same_item : {X : Type 0} (xs : List X) (i : ℕ) (item read : X) → i < length xs → item ≡ get_or xs i item → read ≡ item → read ≡ get_or xs i read
 same_item xs i item read within is same = same ∙ is ∙ get_or_default xs i item read within
+
+pub in_weaker : (fault : CompileFault) (P Q : ℕ → ℕ → DeclWhat → Type 0) → ((file place : ℕ) (what : DeclWhat) → P file place what → Q file place what) → IfIn fault P → IfIn fault Q
+in_weaker (In file place what) P Q f p = f file place what p
+in_weaker compile.OutOfMemory P Q f p = tt

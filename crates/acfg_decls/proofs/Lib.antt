@@ -1,5 +1,6 @@
 mod Applied
 mod Blank
+mod Distinct
 mod Files
 mod Fronts
 mod Named
