@@ -1,4 +1,12 @@
 pub mod Containers
+pub mod Escapes
 pub mod Form
+pub mod Grammar
+pub mod Lexes
+pub mod Machine
 pub mod Plain
 pub mod Reader
+pub mod Spells
+pub mod Terminals
+pub mod TextFaults
+pub mod Trees
