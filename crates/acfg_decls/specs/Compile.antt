@@ -1,5 +1,5 @@
 -- Compiling, as AOSP aconfig does it: which flags declarations and values make, and which of their tests fails first.
-use Rattle.std.specs.Prelude.{◌≡◌, ℕ, ◌+◌, ◌<◌, ◌==◌, Bool, true, false, not, IsTrue, List, [], ◌∷◌, ◌++◌, length, map, filter, Any, Contains, IsPermutation, ◌⊎◌, Option, None, Some, if◌then◌else◌, ◌&&◌, codes}
+use Rattle.std.specs.Prelude.{◌≡◌, ℕ, ◌+◌, ◌<◌, ◌==◌, Bool, true, false, not, IsTrue, List, [], ◌∷◌, ◌++◌, length, map, filter, Any, Contains, IsPermutation, MatchOption, ◌⊎◌, Option, None, Some, if◌then◌else◌, ◌&&◌, codes}
 use Rattle.std.specs.List.{flat_map, AllByRecursion}
 use Rattle.std.specs.Str.{bytes_eq}
 use Rattle.acfg_base.specs.Names.{IsName, IsPackage, IsContainer}
@@ -213,6 +213,19 @@ pub record Compiles («package» container : List ℕ) (declarations : List Decl
 -- The first fault of declarations and values: its file, place and kind.
 abbrev pub FailsToCompile : List ℕ → List ℕ → List DeclarationsFile → List ValuesFile → ℕ → ℕ → DeclWhat → Type 0
 FailsToCompile «package» container declarations values = FirstFailsIn 0 (all_tests «package» container declarations values)
+
+-- A file compiles to these flags with the package and the container that it names.
+pub record CompilesOwn (file : DeclarationsFile) (flags : List Flag) : Type 0 where
+  pub container : Placed
+  pub named : file.container ≡ Some container
+  pub compiles : Compiles file.package.text (container_read container.text) (file ∷ []) [] flags
+
+-- The first fault of such a file: it names no container, or doesn't compile.
+abbrev pub FailsOwn : DeclarationsFile → ℕ → ℕ → DeclWhat → Type 0
+FailsOwn file number place fault =
+    MatchOption file.container
+    ((number ≡ 0) × (place ≡ file.end) × (fault ≡ what.MissingField))
+    (λ container. FailsToCompile file.package.text (container_read container.text) (file ∷ []) [] number place fault)
 
 -- a fault in a file, for which this holds; nothing is said of a want of memory
 abbrev pub IfIn : CompileFault → (ℕ → ℕ → DeclWhat → Type 0) → Type 0

@@ -6,7 +6,7 @@ ghost use Rattle.acfg_decls.specs.Compile.{OfPackage, FirstFails, Holds, IfAt, f
 ghost use Rattle.acfg_decls.specs.Flags.{IsLawful};
 ghost use Rattle.acfg_decls.specs.Places.{Finds, names};
 
-use crate::compile::MOST_FLAGS;
+use crate::compiling::MOST_FLAGS;
 use crate::declared::{DeclarationsFile, DeclaredFlag, Placed};
 use crate::faults::{DeclFault, DeclWhat};
 use crate::flags::{Flag, Point};

@@ -1,7 +1,7 @@
 //! Declarations of flags and the values that builds set, compiled as AOSP aconfig compiles them.
 #![tactic(auto)]
 
-mod compile;
+mod compiling;
 mod declared;
 mod declaring;
 mod faults;
@@ -10,7 +10,8 @@ mod order;
 mod own;
 mod setting;
 
+pub use compiling::{MOST_FLAGS, compile};
 pub use declared::{Declarations, Values};
 pub use faults::{CompileFault, DeclFault, DeclWhat};
 pub use flags::{Flag, Flags, Point, Purpose};
-pub use own::read_container;
+pub use own::{compile_own, read_container};

@@ -4,7 +4,7 @@ use Rattle.acfg_decls.specs.Compile.{declarations_tests, declared, flag_of}
 use Rattle.acfg_decls.specs.Flags.{IsLawful}
 use Rattle.acfg_decls.specs.Places.{Finds, names}
 use Rattle.acfg_decls.proofs.Files.{PassedIn}
-use Rattle.acfg_decls.proofs.compile.declare_all.Given as goal
+use Rattle.acfg_decls.proofs.compiling.declare_all.Given as goal
 
 abbrev pub invariant-loop-file : goal.invariant-loop-file
 invariant-loop-file l = record {
