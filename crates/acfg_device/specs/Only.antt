@@ -31,3 +31,10 @@ pub record OnlyChanges {P : Type 0} (panel : Ghosts P) (changed : List ℕ → T
   pub said : panel.said after ≡ panel.said before
   pub count : panel.faults before ≤ panel.faults after
   pub failed : fails → Rose (panel.faults before) (panel.faults after)
+
+-- files and words stay, and what is told is on the disk to a greater part
+pub record OnlySyncs {P : Type 0} (panel : Ghosts P) (before after : P) (fails : Type 0) : Type 0 where
+  pub files : panel.files after ≡ panel.files before
+  pub said : panel.said after ≡ panel.said before
+  pub count : panel.faults before ≤ panel.faults after
+  pub failed : fails → Rose (panel.faults before) (panel.faults after)

@@ -1,10 +1,10 @@
 //! What is read and said.
 
-ghost use Rattle.std.specs.Prelude.{◌≡◌, ◌⊎◌, ℕ, ◌≤◌, ◌++◌, Bool, List, [], IsTrue, IfOk, OnOk, OnErr};
+ghost use Rattle.std.specs.Prelude.{◌≡◌, ℕ, ◌≤◌, ◌++◌, Bool, List, IsTrue, IfOk, OnOk, OnErr};
 ghost use Rattle.std.specs.Option.{option_map};
-ghost use Rattle.acfg_device.specs.Account.{Account, moved_on};
-ghost use Rattle.acfg_device.specs.Calls.{after_say};
+ghost use Rattle.acfg_device.specs.Account.{Account};
 ghost use Rattle.acfg_device.specs.Disk.{IsSettled, MayLeave, told};
+ghost use Rattle.acfg_device.specs.Outcomes.{MayHaveSaid, Said};
 ghost use Rattle.acfg_device.specs.Panel.{Files, Rose, SaysPart};
 
 use std::alloc::{AllocError, AllocFailed, Global};
@@ -72,10 +72,8 @@ pub trait Panel {
     fn say(&mut self, bytes: &[u8]) -> Result<(), Failed>
         ensures ok { IsTrue tells → OnOk result (said self.new ≡ said self.old ++ bytes.now) }
         ensures err { IsTrue tells → OnErr result (SaysPart (said self.old) (said self.new) bytes.now) }
-        ensures account_ok { IsTrue tells → OnOk result (account self.new
-            ≡ moved_on (account self.old) (after_say (account self.old).now bytes.now) bytes.now) }
-        ensures account_err { IsTrue tells → OnErr result ((account self.new ≡ account self.old) ⊎ ((part rest : List ℕ) × (bytes.now ≡ part ++ rest)
-            × (account self.new ≡ moved_on (account self.old) (after_say (account self.old).now part) part))) }
+        ensures account_ok { IsTrue tells → OnOk result (Said (account self.old) (account self.new) bytes.now) }
+        ensures account_err { IsTrue tells → OnErr result (MayHaveSaid (account self.old) (account self.new) bytes.now) }
         ensures files { files self.new ≡ files self.old }
         ensures names { (account self.new).now.names ≡ (account self.old).now.names }
         ensures pending { (account self.new).now.pending ≡ (account self.old).now.pending }
