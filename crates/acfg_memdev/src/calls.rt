@@ -9,8 +9,8 @@ ghost use Rattle.acfg_device.specs.Outcomes.{MayHaveRemoved, MayHaveRenamed, May
 ghost use Rattle.acfg_device.specs.Panel.{Rose, SaysPart};
 ghost use Rattle.acfg_memdev.specs.History.{Write, WriteAt, Sync, Rename, Remove, SyncNames, Say, IsCall, account_of, called, faults_of, files_of, is_listed, said_of};
 
+use crate::call::Call;
 use crate::device::MemDevice;
-use crate::step::Call;
 use acfg_device::{Device, Failed, OutOfMemory, Panel, ReadFault};
 use std::alloc::Global;
 

@@ -2,7 +2,7 @@ use Rattle.std.proofs.Common.{◌≡◌, drop, map}
 use Rattle.acfg_memdev.specs.History.{CanDoAll, carried, until}
 use Rattle.acfg_memdev.specs.Kept.{logged_of}
 use Rattle.acfg_memdev.specs.Slots.{disk_of}
-use Rattle.acfg_memdev.proofs.step.replay.Given as goal
+use Rattle.acfg_memdev.proofs.call.replay.Given as goal
 
 abbrev pub invariant-loop-number : goal.invariant-loop-number
 invariant-loop-number l = record {

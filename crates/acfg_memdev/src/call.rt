@@ -3,7 +3,7 @@
 ghost use Rattle.std.specs.Prelude.{◌≡◌, OnOk, OnErr, IfOk, map};
 ghost use Rattle.acfg_memdev.specs.Slots.{disk_of};
 ghost use Rattle.acfg_memdev.specs.History.{CanDo, CanDoAll, Write, WriteAt, Sync, Rename, Remove, Say, carried, done, until};
-ghost use Rattle.acfg_memdev.specs.Kept.{logged_of, step_of};
+ghost use Rattle.acfg_memdev.specs.Kept.{logged_of, call_of};
 
 use crate::disk::{Disk, remove, rename, say, sync, sync_names, write, write_at};
 use acfg_device::OutOfMemory;
@@ -23,8 +23,8 @@ pub enum Call {
 
 /// Carries a call out, or leaves the disk as it was.
 pub fn perform(disk: &mut Disk, alloc: Global, call: &Call) -> Result<(), OutOfMemory>
-    requires { CanDo (step_of call.now) (disk_of disk.old) }
-    ensures ok { OnOk result (disk_of disk.new ≡ done (step_of call.now) (disk_of disk.old)) }
+    requires { CanDo (call_of call.now) (disk_of disk.old) }
+    ensures ok { OnOk result (disk_of disk.new ≡ done (call_of call.now) (disk_of disk.old)) }
     ensures err { OnErr result (disk_of disk.new ≡ disk_of disk.old) }
 {
     match call {
@@ -64,40 +64,40 @@ pub fn replay(
 
 impl Call {
     pub fn write(alloc: Global, name: &str, bytes: &[u8]) -> Result<Call, OutOfMemory>
-        ensures { IfOk result (λ call. step_of call ≡ Write name.now bytes.now) }
+        ensures { IfOk result (λ call. call_of call ≡ Write name.now bytes.now) }
     {
         let name = String::from_str(alloc, name)?;
         Ok(Call::Write(name, Vec::from_slice(alloc, bytes)?))
     }
 
     pub fn write_at(alloc: Global, name: &str, at: usize, bytes: &[u8]) -> Result<Call, OutOfMemory>
-        ensures { IfOk result (λ call. step_of call ≡ WriteAt name.now at bytes.now) }
+        ensures { IfOk result (λ call. call_of call ≡ WriteAt name.now at bytes.now) }
     {
         let name = String::from_str(alloc, name)?;
         Ok(Call::WriteAt(name, at, Vec::from_slice(alloc, bytes)?))
     }
 
     pub fn sync(alloc: Global, name: &str) -> Result<Call, OutOfMemory>
-        ensures { IfOk result (λ call. step_of call ≡ Sync name.now) }
+        ensures { IfOk result (λ call. call_of call ≡ Sync name.now) }
     {
         Ok(Call::Sync(String::from_str(alloc, name)?))
     }
 
     pub fn rename(alloc: Global, from: &str, to: &str) -> Result<Call, OutOfMemory>
-        ensures { IfOk result (λ call. step_of call ≡ Rename from.now to.now) }
+        ensures { IfOk result (λ call. call_of call ≡ Rename from.now to.now) }
     {
         let from = String::from_str(alloc, from)?;
         Ok(Call::Rename(from, String::from_str(alloc, to)?))
     }
 
     pub fn remove(alloc: Global, name: &str) -> Result<Call, OutOfMemory>
-        ensures { IfOk result (λ call. step_of call ≡ Remove name.now) }
+        ensures { IfOk result (λ call. call_of call ≡ Remove name.now) }
     {
         Ok(Call::Remove(String::from_str(alloc, name)?))
     }
 
     pub fn say(alloc: Global, bytes: &[u8]) -> Result<Call, OutOfMemory>
-        ensures { IfOk result (λ call. step_of call ≡ Say bytes.now) }
+        ensures { IfOk result (λ call. call_of call ≡ Say bytes.now) }
     {
         Ok(Call::Say(Vec::from_slice(alloc, bytes)?))
     }
