@@ -4,4 +4,7 @@ pub mod Cuts
 pub mod Moments
 pub mod Naming
 pub mod OnlyThen
+pub mod Ranges
 pub mod Read
+pub mod Runs
+pub mod Settling

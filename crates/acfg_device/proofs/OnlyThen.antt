@@ -64,3 +64,12 @@ module _ {P : Type 0} {panel : Ghosts P} {first second : P} {fails : Type 0} whe
     count = reads.count;
     failed = reads.failed;
   }
+
+  -- more files may have changed
+  pub changes_more : (some changed : List ℕ → Type 0) → ((name : List ℕ) → some name → changed name) → OnlyChanges panel some first second fails → OnlyChanges panel changed first second fails
+  changes_more some changed among changes = record {
+    others = λ name apart. changes.others name (λ is. apart (among name is));
+    said = changes.said;
+    count = changes.count;
+    failed = changes.failed;
+  }

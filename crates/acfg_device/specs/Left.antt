@@ -24,6 +24,10 @@ pub record LeftBut (disk : Disk) (changed : List ℕ → Type 0) (files : Files)
 abbrev pub LeavesBut : (List ℕ → Type 0) → Account → Account → Type 0
 LeavesBut changed start end = LeavesSince start end (LeftBut start.now changed)
 
+-- what a cut of this disk may leave, but for the names that may have changed; or exactly the new files
+abbrev pub LeftOrNew : Disk → (List ℕ → Type 0) → Files → Files → List ℕ → Type 0
+LeftOrNew disk changed new files said = LeftBut disk changed files said ⊎ ((files ≡ new) × (said ≡ disk.said))
+
 -- Either the files from before, but for the names that may have changed, or exactly the new ones; and no word
 -- more or less than before.
 pub record IsEither (first : Files) (spoken : List ℕ) (changed : List ℕ → Type 0) (new files : Files) (said : List ℕ) : Type 0 where
