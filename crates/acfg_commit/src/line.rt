@@ -1,6 +1,7 @@
 //! Words are said.
 
-ghost use Rattle.std.specs.Prelude.{◌≡◌, ◌++◌, IsTrue, IsErr, OnOk, OnErr};
+ghost use Rattle.std.specs.Prelude.{◌≡◌, ◌+◌, ◌++◌, IsTrue, IsErr, OnOk, OnErr};
+ghost use Rattle.acfg_device.specs.Account.{moment};
 ghost use Rattle.acfg_device.specs.Disk.{IsSettled, MayLeave};
 ghost use Rattle.acfg_device.specs.Left.{LeavesSince, SaysOnly};
 ghost use Rattle.acfg_device.specs.Only.{OnlySays};
@@ -21,6 +22,7 @@ pub fn say_line<P: Panel>(panel: &mut P, line: &[u8]) -> Result<(), Failed>
     ensures cut { IsTrue P.tells → IsSettled (P.account panel.old).now → LeavesSince (P.account panel.old) (P.account panel.new)
         (SaysOnly (P.files panel.old) (P.said panel.old) line.now) }
     ensures settled { IsTrue P.tells → IsSettled (P.account panel.old).now → IsSettled (P.account panel.new).now }
+    ensures calls { IsTrue P.tells → OnOk result (moment (P.account panel.new) ≡ moment (P.account panel.old) + 1) }
 {
     panel.say(line)?;
     Ok(())

@@ -1,6 +1,7 @@
 //! Moves on several files.
 
-ghost use Rattle.std.specs.Prelude.{◌≡◌, [], IsTrue, IsErr, OnOk};
+ghost use Rattle.std.specs.Prelude.{◌≡◌, ◌+◌, ◌*◌, [], IsTrue, IsErr, OnOk, length};
+ghost use Rattle.acfg_device.specs.Account.{moment};
 ghost use Rattle.acfg_device.specs.Disk.{IsSettled};
 ghost use Rattle.acfg_device.specs.Left.{IsEither, IsReady, IsSyncedAt, LeavesBut, LeavesSince, NotMovedTo};
 ghost use Rattle.acfg_device.specs.Only.{OnlyChanges};
@@ -28,6 +29,7 @@ pub fn write_files<D: Device>(device: &mut D, files: &[NewFile]) -> Result<(), F
         → LeavesBut (IsNameAmong files.now) (D.account device.old) (D.account device.new) }
     ensures ready { IsTrue D.tells → IsReady (D.account device.old).now → OnOk result (IsReady (D.account device.new).now) }
     ensures synced { IsTrue D.tells → OnOk result (AreSynced files.now (D.account device.new).now) }
+    ensures calls { IsTrue D.tells → OnOk result (moment (D.account device.new) ≡ moment (D.account device.old) + 2 * length files.now) }
 {
     for file in files {
         write_synced(device, file.name.as_str(), file.bytes.as_slice())?;
@@ -51,6 +53,7 @@ pub fn save_files<D: Device>(device: &mut D, files: &[NewFile]) -> Result<(), Fa
     ensures last { IsTrue D.tells → OnOk result (Last files.now (D.files device.new) (D.account device.new).now) }
     ensures settled { IsTrue D.tells → IsSettled (D.account device.old).now → OnOk result (IsSettled (D.account device.new).now) }
     ensures names { IsTrue D.tells → OnOk result ((D.account device.new).now.pending ≡ []) }
+    ensures calls { IsTrue D.tells → OnOk result (moment (D.account device.new) ≡ moment (D.account device.old) + (2 * length files.now + 1)) }
 {
     write_files(device, files)?;
     device.sync_names()?;

@@ -4,6 +4,7 @@ ghost use Rattle.std.specs.Prelude.{◌≡◌, ◌+◌, ◌≤◌, [], Some, Non
 ghost use Rattle.std.specs.Map.{update};
 ghost use Rattle.std.specs.Option.{option_map};
 ghost use Rattle.std.specs.Str.{bytes_eq};
+ghost use Rattle.acfg_device.specs.Account.{moment};
 ghost use Rattle.acfg_device.specs.Calls.{after_sync, after_write, spliced};
 ghost use Rattle.acfg_device.specs.Disk.{IsSettled, MayLeave};
 ghost use Rattle.acfg_device.specs.Left.{ChangesAlone, ChangesRange, IsEither, IsReady, IsSyncedAt, LeavesBut, LeavesSince};
@@ -24,6 +25,7 @@ pub fn write_synced<D: Device>(device: &mut D, name: &str, bytes: &[u8]) -> Resu
     ensures ready { IsTrue D.tells → IsReady (D.account device.old).now → OnOk result (IsReady (D.account device.new).now) }
     ensures disk { IsTrue D.tells → OnOk result ((D.account device.new).now
         ≡ after_sync (after_write (D.account device.old).now name.now bytes.now) name.now) }
+    ensures calls { IsTrue D.tells → OnOk result (moment (D.account device.new) ≡ moment (D.account device.old) + 2) }
 {
     device.write(name, bytes)?;
     device.sync(name)?;
@@ -49,6 +51,7 @@ pub fn put_synced<D: Device>(
     ensures others { IsTrue D.tells → ChangesAlone (D.account device.old).now name.now
         → LeavesBut (λ other. other ≡ name.now) (D.account device.old) (D.account device.new) }
     ensures settled { IsTrue D.tells → IsSettled (D.account device.old).now → OnOk result (IsSettled (D.account device.new).now) }
+    ensures calls { IsTrue D.tells → OnOk result (moment (D.account device.new) ≡ moment (D.account device.old) + 2) }
 {
     device.write_at(name, at, bytes)?;
     device.sync(name)?;
@@ -66,6 +69,7 @@ pub fn remove_synced<D: Device>(device: &mut D, name: &str) -> Result<(), Failed
     ensures others { IsTrue D.tells → LeavesBut (λ other. other ≡ name.now) (D.account device.old) (D.account device.new) }
     ensures settled { IsTrue D.tells → IsSettled (D.account device.old).now → OnOk result (IsSettled (D.account device.new).now) }
     ensures names { IsTrue D.tells → OnOk result ((D.account device.new).now.pending ≡ []) }
+    ensures calls { IsTrue D.tells → OnOk result (moment (D.account device.new) ≡ moment (D.account device.old) + 2) }
 {
     device.remove(name)?;
     device.sync_names()?;
@@ -88,6 +92,7 @@ pub fn settle<D: Device>(device: &mut D, name: &str) -> Result<(), Failed>
     ensures settled { IsTrue D.tells → IsSettled (D.account device.old).now → IsSettled (D.account device.new).now }
     ensures names { IsTrue D.tells → OnOk result ((D.account device.new).now.pending ≡ []) }
     ensures synced { IsTrue D.tells → OnOk result (IsSyncedAt (D.account device.new).now name.now) }
+    ensures calls { IsTrue D.tells → OnOk result (moment (D.account device.new) ≡ moment (D.account device.old) + 2) }
 {
     device.sync(name)?;
     device.sync_names()?;

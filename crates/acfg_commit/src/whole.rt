@@ -1,6 +1,7 @@
 //! Moves that are done whole or not at all.
 
-ghost use Rattle.std.specs.Prelude.{◌≡◌, ◌≢◌, ◌⊎◌, IsTrue, IsErr, OnOk};
+ghost use Rattle.std.specs.Prelude.{◌≡◌, ◌≢◌, ◌⊎◌, ◌+◌, ◌*◌, IsTrue, IsErr, OnOk, length};
+ghost use Rattle.acfg_device.specs.Account.{moment};
 ghost use Rattle.acfg_device.specs.Disk.{IsSettled};
 ghost use Rattle.acfg_device.specs.Left.{IsEither, IsReady, LeavesSince, LeftOrNew};
 ghost use Rattle.acfg_device.specs.Only.{OnlyChanges};
@@ -25,6 +26,7 @@ pub fn replace<D: Device>(
     ensures cut { IsTrue D.tells → IsReady (D.account device.old).now → LeavesSince (D.account device.old) (D.account device.new)
         (LeftOrNew (D.account device.old).now (λ other. other ≡ beside.now) (replaced beside.now name.now bytes.now (D.files device.old))) }
     ensures settled { IsTrue D.tells → IsReady (D.account device.old).now → OnOk result (IsSettled (D.account device.new).now) }
+    ensures calls { IsTrue D.tells → OnOk result (moment (D.account device.new) ≡ moment (D.account device.old) + 4) }
 {
     write_synced(device, beside, bytes)?;
     device.rename(beside, name)?;
@@ -54,6 +56,7 @@ pub fn commit<D: Device>(
         (IsEither (D.files device.old) (D.said device.old) (λ other. IsNameAmong files.now other ⊎ (other ≡ beside.now))
         (replaced beside.now name.now bytes.now (written files.now (D.files device.old)))) }
     ensures settled { IsTrue D.tells → IsSettled (D.account device.old).now → OnOk result (IsSettled (D.account device.new).now) }
+    ensures calls { IsTrue D.tells → OnOk result (moment (D.account device.new) ≡ moment (D.account device.old) + (2 * length files.now + 4)) }
 {
     write_files(device, files)?;
     replace(device, beside, name, bytes)?;

@@ -15,6 +15,7 @@ loop-file-init g c = record {
   cut = λ told free. carry_start (IsNameAmong c.args.files.now) (g.D.Panel.account c.args.device.now);
   free = λ told name free. free;
   ready = λ told ready. ready;
+  calls = λ told. omega arith;
   synced = λ told k d low. absurd (omega (arith, low));
 }
 
@@ -55,6 +56,7 @@ loop-file-preserved g c =
           (λ name is. subst (IsNameAmong c.args.files.now) (sym is) here) (so_far.cut told free) (c.in_ok-write_synced.ensures.cut told (inr alone));
       free = λ told. free_later (g.D.Panel.account c.args.device.now).now (g.D.Panel.account c.loop-file.device).now (g.D.Panel.account c.write_synced.new.device).now _ _ (c.in_ok-write_synced.ensures.disk told) (so_far.free told);
       ready = λ told ready. c.in_ok-write_synced.ensures.ready told (so_far.ready told ready);
+      calls = λ told. omega (arith, c.in_ok-write_synced.ensures.calls told, so_far.calls told);
       synced = λ told.
           one_synced c.args.files.now c.loop-file.file-index c.file-item.result c.as_str.result.now c.as_slice.result.now c.loop-file-test.true c.file-item.is c.as_str.ensures.value c.as_slice.ensures.value
           (g.D.Panel.account c.loop-file.device).now (g.D.Panel.account c.write_synced.new.device).now (c.in_ok-write_synced.ensures.disk told) (so_far.synced told);

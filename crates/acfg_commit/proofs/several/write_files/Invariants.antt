@@ -1,4 +1,5 @@
-use Rattle.std.proofs.Common.{◌≡◌, IsTrue, ℕ, List, drop, take}
+use Rattle.std.proofs.Common.{◌≡◌, ◌+◌, ◌*◌, IsTrue, ℕ, List, drop, take}
+use Rattle.acfg_device.specs.Account.{moment}
 use Rattle.acfg_device.specs.Left.{IsReady, LeavesBut, NotMovedTo}
 use Rattle.acfg_device.specs.Only.{OnlyChanges}
 use Rattle.acfg_commit.specs.Written.{AreFree, AreSynced, IsNameAmong, written}
@@ -11,5 +12,6 @@ invariant-loop-file g l = record {
   cut : IsTrue g.D.Panel.tells → AreFree l.files (g.D.Panel.account l.initial.device).now → LeavesBut (IsNameAmong l.files) (g.D.Panel.account l.initial.device) (g.D.Panel.account l.device);
   free : IsTrue g.D.Panel.tells → (name : List ℕ) → NotMovedTo (g.D.Panel.account l.initial.device).now.pending name → NotMovedTo (g.D.Panel.account l.device).now.pending name;
   ready : IsTrue g.D.Panel.tells → IsReady (g.D.Panel.account l.initial.device).now → IsReady (g.D.Panel.account l.device).now;
+  calls : IsTrue g.D.Panel.tells → moment (g.D.Panel.account l.device) ≡ moment (g.D.Panel.account l.initial.device) + 2 * l.file-index;
   synced : IsTrue g.D.Panel.tells → AreSynced (take l.file-index l.files) (g.D.Panel.account l.device).now;
 }
