@@ -1,4 +1,7 @@
--- What a cut may leave after each call, by what it might have left before.
+-- What a cut may leave after each call, by what it might have left before. Use these where a function's clause
+-- has a shape of its own, so that the steps of `Carried` don't serve: what a cut leaves right after a rename is
+--     rename_leaves disk from to files said apart leaves
+-- the names with the rename, or a cut of the disk before it.
 use Rattle.std.proofs.Common.{◌≡◌, ◌≢◌, ◌⊎◌, inl, inr, ℕ, List, [], ◌∷◌, Option, Some, None, is_some, IfSome, refl, sym, ◌∙◌, ap, subst, cond}
 use Rattle.std.specs.Map.{update}
 use Rattle.std.specs.Option.{option_map}

@@ -1,5 +1,7 @@
 -- What was left since the start of a run differs from a cut at the start in some names alone. Each call on
--- these names carries that on, whether it is done or fails.
+-- these names carries that on, whether it is done or fails. Use these in a function that makes calls, one step
+-- a call; each exit is the steps so far. After a write, and a sync that failed:
+--     carry_same _ _ _ _ (carry_write _ _ _ _ (carry_start _ _) _ _ among alone wrote) unchanged
 use Rattle.std.proofs.Common.{◌≡◌, ◌≢◌, ◌⊎◌, ⊎_elim, ℕ, List, [], length, sym, subst}
 use Rattle.acfg_device.specs.Account.{Account, moment, moved_on}
 use Rattle.acfg_device.specs.Calls.{after_write, after_write_at, after_sync, after_rename, after_remove, after_sync_names}

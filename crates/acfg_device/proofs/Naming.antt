@@ -1,4 +1,6 @@
--- Functions of names, changed at one name or two.
+-- Functions of names, changed at one name or two. Use these to turn clauses on single names into an equation of
+-- files: after a write that was done,
+--     updated first after name (Some bytes) file others : after ≡ update bytes_eq first name (Some bytes)
 use Rattle.std.proofs.Common.{◌≡◌, ◌≢◌, ◌⊎◌, inl, inr, ⊎_elim, ℕ, List, Option, None, refl, sym, ◌∙◌, ap}
 use Rattle.std.proofs.lemmas.Bool.{cases_Bool, false_from_ne_true}
 use Rattle.std.proofs.lemmas.Slice.Eq.{bytes_eq-Decides}
