@@ -26,7 +26,8 @@ AreSynced files disk = All (λ file. IsSyncedAt disk (string_bytes file.name)) f
 
 -- whatever a cut leaves has under each of these names what is told
 abbrev pub Last : List NewFile → Files → Disk → Type 0
-Last files told disk = (left : Files) (said : List ℕ) → MayLeave disk left said → All (λ file. left (string_bytes file.name) ≡ told (string_bytes file.name)) files
+Last files told disk = (left : Files) (said : List ℕ) → MayLeave disk left said
+    → All (λ file. left (string_bytes file.name) ≡ told (string_bytes file.name)) files
 
 -- the file beside it gets the name, and has these bytes
 abbrev pub replaced : List ℕ → List ℕ → List ℕ → Files → Files

@@ -18,8 +18,10 @@ pub fn say_line<P: Panel>(panel: &mut P, line: &[u8]) -> Result<(), Failed>
 
     // A cut at any moment leaves the files that one at the start might have left, and the first few bytes of
     // the line behind the words.
-    ensures words { IsTrue P.tells → LeavesSince (P.account panel.old) (P.account panel.new) (LeavesWords (P.account panel.old).now line.now) }
-    ensures cut { IsTrue P.tells → IsSettled (P.account panel.old).now → LeavesSince (P.account panel.old) (P.account panel.new)
+    ensures words { IsTrue P.tells → LeavesSince (P.account panel.old) (P.account panel.new)
+        (LeavesWords (P.account panel.old).now line.now) }
+    ensures cut { IsTrue P.tells → IsSettled (P.account panel.old).now
+        → LeavesSince (P.account panel.old) (P.account panel.new)
         (SaysOnly (P.files panel.old) (P.said panel.old) line.now) }
     ensures settled { IsTrue P.tells → IsSettled (P.account panel.old).now → IsSettled (P.account panel.new).now }
     ensures calls { IsTrue P.tells → OnOk result (moment (P.account panel.new) ≡ moment (P.account panel.old) + 1) }

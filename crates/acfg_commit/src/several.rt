@@ -27,9 +27,11 @@ pub fn write_files<D: Device>(device: &mut D, files: &[NewFile]) -> Result<(), F
     // A cut at any moment leaves all other files as a cut at the start might have left them.
     ensures cut { IsTrue D.tells → AreFree files.now (D.account device.old).now
         → LeavesBut (IsNameAmong files.now) (D.account device.old) (D.account device.new) }
-    ensures ready { IsTrue D.tells → IsReady (D.account device.old).now → OnOk result (IsReady (D.account device.new).now) }
+    ensures ready { IsTrue D.tells → IsReady (D.account device.old).now
+        → OnOk result (IsReady (D.account device.new).now) }
     ensures synced { IsTrue D.tells → OnOk result (AreSynced files.now (D.account device.new).now) }
-    ensures calls { IsTrue D.tells → OnOk result (moment (D.account device.new) ≡ moment (D.account device.old) + 2 * length files.now) }
+    ensures calls { IsTrue D.tells → OnOk result (moment (D.account device.new)
+        ≡ moment (D.account device.old) + 2 * length files.now) }
 {
     for file in files {
         write_synced(device, file.name.as_str(), file.bytes.as_slice())?;
@@ -51,9 +53,11 @@ pub fn save_files<D: Device>(device: &mut D, files: &[NewFile]) -> Result<(), Fa
 
     // From then on a cut leaves the files as they were written.
     ensures last { IsTrue D.tells → OnOk result (Last files.now (D.files device.new) (D.account device.new).now) }
-    ensures settled { IsTrue D.tells → IsSettled (D.account device.old).now → OnOk result (IsSettled (D.account device.new).now) }
+    ensures settled { IsTrue D.tells → IsSettled (D.account device.old).now
+        → OnOk result (IsSettled (D.account device.new).now) }
     ensures names { IsTrue D.tells → OnOk result ((D.account device.new).now.pending ≡ []) }
-    ensures calls { IsTrue D.tells → OnOk result (moment (D.account device.new) ≡ moment (D.account device.old) + (2 * length files.now + 1)) }
+    ensures calls { IsTrue D.tells → OnOk result (moment (D.account device.new)
+        ≡ moment (D.account device.old) + (2 * length files.now + 1)) }
 {
     write_files(device, files)?;
     device.sync_names()?;

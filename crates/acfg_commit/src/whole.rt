@@ -19,13 +19,18 @@ pub fn replace<D: Device>(
 ) -> Result<(), Failed>
     requires { beside.now ≢ name.now }
 
-    ensures files { IsTrue D.tells → OnOk result (D.files device.new ≡ replaced beside.now name.now bytes.now (D.files device.old)) }
-    ensures changes { OnlyChanges D.Panel (λ other. (other ≡ beside.now) ⊎ (other ≡ name.now)) device.old device.new (IsErr result) }
+    ensures files { IsTrue D.tells → OnOk result (D.files device.new
+        ≡ replaced beside.now name.now bytes.now (D.files device.old)) }
+    ensures changes { OnlyChanges D.Panel (λ other. (other ≡ beside.now) ⊎ (other ≡ name.now)) device.old device.new
+        (IsErr result) }
 
     // A cut at any moment leaves the old file or the new one, whole.
-    ensures cut { IsTrue D.tells → IsReady (D.account device.old).now → LeavesSince (D.account device.old) (D.account device.new)
-        (LeftOrNew (D.account device.old).now (λ other. other ≡ beside.now) (replaced beside.now name.now bytes.now (D.files device.old))) }
-    ensures settled { IsTrue D.tells → IsReady (D.account device.old).now → OnOk result (IsSettled (D.account device.new).now) }
+    ensures cut { IsTrue D.tells → IsReady (D.account device.old).now
+        → LeavesSince (D.account device.old) (D.account device.new)
+        (LeftOrNew (D.account device.old).now (λ other. other ≡ beside.now)
+        (replaced beside.now name.now bytes.now (D.files device.old))) }
+    ensures settled { IsTrue D.tells → IsReady (D.account device.old).now
+        → OnOk result (IsSettled (D.account device.new).now) }
     ensures calls { IsTrue D.tells → OnOk result (moment (D.account device.new) ≡ moment (D.account device.old) + 4) }
 {
     write_synced(device, beside, bytes)?;
@@ -50,13 +55,17 @@ pub fn commit<D: Device>(
 
     ensures files { IsTrue D.tells → OnOk result (D.files device.new
         ≡ replaced beside.now name.now bytes.now (written files.now (D.files device.old))) }
-    ensures changes { OnlyChanges D.Panel (λ other. IsNameAmong files.now other ⊎ ((other ≡ beside.now) ⊎ (other ≡ name.now)))
+    ensures changes { OnlyChanges D.Panel (λ other. IsNameAmong files.now other
+        ⊎ ((other ≡ beside.now) ⊎ (other ≡ name.now)))
         device.old device.new (IsErr result) }
-    ensures cut { IsTrue D.tells → IsSettled (D.account device.old).now → LeavesSince (D.account device.old) (D.account device.new)
+    ensures cut { IsTrue D.tells → IsSettled (D.account device.old).now
+        → LeavesSince (D.account device.old) (D.account device.new)
         (IsEither (D.files device.old) (D.said device.old) (λ other. IsNameAmong files.now other ⊎ (other ≡ beside.now))
         (replaced beside.now name.now bytes.now (written files.now (D.files device.old)))) }
-    ensures settled { IsTrue D.tells → IsSettled (D.account device.old).now → OnOk result (IsSettled (D.account device.new).now) }
-    ensures calls { IsTrue D.tells → OnOk result (moment (D.account device.new) ≡ moment (D.account device.old) + (2 * length files.now + 4)) }
+    ensures settled { IsTrue D.tells → IsSettled (D.account device.old).now
+        → OnOk result (IsSettled (D.account device.new).now) }
+    ensures calls { IsTrue D.tells → OnOk result (moment (D.account device.new)
+        ≡ moment (D.account device.old) + (2 * length files.now + 4)) }
 {
     write_files(device, files)?;
     replace(device, beside, name, bytes)?;

@@ -30,7 +30,8 @@ LeftOrNew disk changed new files said = LeftBut disk changed files said ⊎ ((fi
 
 -- Either the files from before, but for the names that may have changed, or exactly the new ones; and no word
 -- more or less than before.
-pub record IsEither (first : Files) (spoken : List ℕ) (changed : List ℕ → Type 0) (new files : Files) (said : List ℕ) : Type 0 where
+pub record IsEither (first : Files) (spoken : List ℕ) (changed : List ℕ → Type 0) (new files : Files)
+    (said : List ℕ) : Type 0 where
   pub left : SameBut changed first files ⊎ (files ≡ new)
   pub words : said ≡ spoken
 
@@ -41,7 +42,8 @@ pub record SaysOnly (first : Files) (spoken bytes : List ℕ) (files : Files) (s
 
 -- The same files but for one, which has as many bytes as before and the same outside of a range; and no word
 -- more or less than before.
-pub record ChangesRange (first : Files) (spoken name : List ℕ) (at size : ℕ) (files : Files) (said : List ℕ) : Type 0 where
+pub record ChangesRange (first : Files) (spoken name : List ℕ) (at size : ℕ) (files : Files)
+    (said : List ℕ) : Type 0 where
   pub others : SameBut (λ other. other ≡ name) first files
   pub range : IsSomeAnd (first name) (λ held. IsSomeAnd (files name) (SameOutside ((at, size) ∷ []) held))
   pub words : said ≡ spoken

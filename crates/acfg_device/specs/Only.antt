@@ -26,7 +26,8 @@ pub record OnlySays {P : Type 0} (panel : Ghosts P) (before after : P) (fails : 
   pub failed : fails → Rose (panel.faults before) (panel.faults after)
 
 -- the words stay, and so do all files but those that may have changed
-pub record OnlyChanges {P : Type 0} (panel : Ghosts P) (changed : List ℕ → Type 0) (before after : P) (fails : Type 0) : Type 0 where
+pub record OnlyChanges {P : Type 0} (panel : Ghosts P) (changed : List ℕ → Type 0) (before after : P)
+    (fails : Type 0) : Type 0 where
   pub others : SameBut changed (panel.files before) (panel.files after)
   pub said : panel.said after ≡ panel.said before
   pub count : panel.faults before ≤ panel.faults after

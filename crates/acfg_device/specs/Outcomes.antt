@@ -2,7 +2,8 @@
 -- it fails. The traits cite these words, and so does each device.
 use Rattle.std.specs.Prelude.{◌≡◌, ◌⊎◌, ◌++◌, ℕ, List, [], length}
 use Rattle.acfg_device.specs.Account.{Account, moved_on}
-use Rattle.acfg_device.specs.Calls.{after_write, after_write_at, after_sync, after_rename, after_remove, after_sync_names, after_say}
+use Rattle.acfg_device.specs.Calls.{after_write, after_write_at, after_sync, after_rename, after_remove}
+use Rattle.acfg_device.specs.Calls.{after_sync_names, after_say}
 
 module _ (before after : Account) where
   -- the file has these bytes in the place of all that it had

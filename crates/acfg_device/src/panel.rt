@@ -61,7 +61,8 @@ pub trait Panel {
 
     /// The bytes of the file with this name, and nothing exactly where there is none. It changes nothing.
     fn read(&mut self, alloc: Global, name: &str) -> Result<Option<Vec<u8>>, ReadFault>
-        ensures found { IsTrue tells → IfOk result (λ found. option_map (λ bytes. bytes.items) found ≡ files self.old name.now) }
+        ensures found { IsTrue tells → IfOk result (λ found. option_map (λ bytes. bytes.items) found
+            ≡ files self.old name.now) }
         ensures files { files self.new ≡ files self.old }
         ensures said { said self.new ≡ said self.old }
         ensures account { account self.new ≡ account self.old }
@@ -73,7 +74,8 @@ pub trait Panel {
         ensures ok { IsTrue tells → OnOk result (said self.new ≡ said self.old ++ bytes.now) }
         ensures err { IsTrue tells → OnErr result (SaysPart (said self.old) (said self.new) bytes.now) }
         ensures account_ok { IsTrue tells → OnOk result (Said (account self.old) (account self.new) bytes.now) }
-        ensures account_err { IsTrue tells → OnErr result (MayHaveSaid (account self.old) (account self.new) bytes.now) }
+        ensures account_err { IsTrue tells → OnErr result
+            (MayHaveSaid (account self.old) (account self.new) bytes.now) }
         ensures files { files self.new ≡ files self.old }
         ensures names { (account self.new).now.names ≡ (account self.old).now.names }
         ensures pending { (account self.new).now.pending ≡ (account self.old).now.pending }

@@ -1,11 +1,13 @@
 -- The life of a device in memory, and the account that it makes.
-use Rattle.std.specs.Prelude.{◌≡◌, ◌≢◌, ◌⊎◌, ◌+◌, ◌-◌, ◌^◌, ◌≤◌, ◌++◌, ◌==◌, ⊤, ℕ, true, false, Result, MatchResult, zero, suc, List, [], ◌∷◌, Bool, IsSomeAnd, if◌then◌else◌, length, min, nat_lt}
+use Rattle.std.specs.Prelude.{◌≡◌, ◌≢◌, ◌⊎◌, ◌+◌, ◌-◌, ◌^◌, ◌≤◌, ◌++◌, ◌==◌, ⊤, ℕ, true, false, Result, MatchResult}
+use Rattle.std.specs.Prelude.{zero, suc, List, [], ◌∷◌, Bool, IsSomeAnd, if◌then◌else◌, length, min, nat_lt}
 use Rattle.std.specs.List.{list_any}
 use Rattle.std.specs.Map.{lookup}
 use Rattle.std.specs.Option.{option_map}
 use Rattle.std.specs.Str.{bytes_eq}
 use Rattle.acfg_device.specs.Account.{Account, moved_on}
-use Rattle.acfg_device.specs.Calls.{after_write, after_write_at, after_sync, after_rename, after_remove, after_sync_names, after_say}
+use Rattle.acfg_device.specs.Calls.{after_write, after_write_at, after_sync, after_rename, after_remove}
+use Rattle.acfg_device.specs.Calls.{after_sync_names, after_say}
 use Rattle.acfg_device.specs.Disk.{Disk, File, Within, told}
 use Rattle.acfg_device.specs.Panel.{Files, last_count}
 
@@ -126,11 +128,13 @@ starved_once device = record device { starved = min (device.starved + 1) last_co
 
 -- A call failed: its number is listed, and nothing else changed, or it found no memory.
 abbrev pub HasFailed : History → History → Type 0
-HasFailed old new = ((is_listed old.fails old.calls ≡ true) × (new ≡ called old)) ⊎ ((is_listed old.fails old.calls ≡ false) × (new ≡ starved_once (called old)))
+HasFailed old new = ((is_listed old.fails old.calls ≡ true) × (new ≡ called old))
+    ⊎ ((is_listed old.fails old.calls ≡ false) × (new ≡ starved_once (called old)))
 
 -- A call was carried out, and its number isn't listed, or it failed.
 abbrev pub IsCall : {T E : Type 0} → Result T E → History → History → Call → Type 0
-IsCall result old new call = MatchResult result (λ _. (is_listed old.fails old.calls ≡ false) × (new ≡ logged (called old) old.calls call)) (λ _. HasFailed old new)
+IsCall result old new call = MatchResult result (λ _. (is_listed old.fails old.calls ≡ false)
+    × (new ≡ logged (called old) old.calls call)) (λ _. HasFailed old new)
 
 -- the calls below this number
 abbrev pub until : ℕ → List (ℕ × Call) → List (ℕ × Call)

@@ -2,7 +2,8 @@
 
 ghost use Rattle.std.specs.Prelude.{◌≡◌, OnOk, OnErr, IfOk, map};
 ghost use Rattle.acfg_memdev.specs.Slots.{disk_of};
-ghost use Rattle.acfg_memdev.specs.History.{CanDo, CanDoAll, Write, WriteAt, Sync, Rename, Remove, Say, carried, done, until};
+ghost use Rattle.acfg_memdev.specs.History.{CanDo, CanDoAll, Write, WriteAt, Sync, Rename, Remove, Say, carried};
+ghost use Rattle.acfg_memdev.specs.History.{done, until};
 ghost use Rattle.acfg_memdev.specs.Kept.{logged_of, call_of};
 
 use crate::disk::{Disk, remove, rename, say, sync, sync_names, write, write_at};

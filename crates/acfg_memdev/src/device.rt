@@ -1,11 +1,13 @@
 //! The device, and how a call is counted and carried out.
 
-ghost use Rattle.std.specs.Prelude.{◌≡◌, ◌<◌, ◌≤◌, ◌^◌, [], true, false, map, min, reverse, IsTrue, IsErr, IsOkAnd, IfOk, OnOk, OnErr, MatchResult};
+ghost use Rattle.std.specs.Prelude.{◌≡◌, ◌<◌, ◌≤◌, ◌^◌, [], true, false, map, min, reverse, IsTrue, IsErr, IsOkAnd};
+ghost use Rattle.std.specs.Prelude.{IfOk, OnOk, OnErr, MatchResult};
 ghost use Rattle.std.specs.Option.{option_map};
 ghost use Rattle.std.specs.Result.{ForOk};
 ghost use Rattle.acfg_device.specs.Account.{moved_on};
 ghost use Rattle.acfg_device.specs.Panel.{Rose, last_count};
-ghost use Rattle.acfg_memdev.specs.History.{CanDo, HasFailed, IsCall, account_of, called, disk_after, done, faults_of, files_of, is_listed, logged, saying, starved_once, unused};
+ghost use Rattle.acfg_memdev.specs.History.{CanDo, HasFailed, IsCall, account_of, called, disk_after, done};
+ghost use Rattle.acfg_memdev.specs.History.{faults_of, files_of, is_listed, logged, saying, starved_once, unused};
 ghost use Rattle.acfg_memdev.specs.Kept.{entry_of, call_of};
 ghost use Rattle.acfg_memdev.specs.Slots.{disk_of};
 
@@ -163,7 +165,8 @@ impl MemDevice {
     // Carries out a call of this number, or counts that it found no memory.
     fn carry_out(&mut self, number: u128, call: Result<Call, OutOfMemory>) -> Result<(), Failed>
         requires { ForOk call (λ call. CanDo (call_of call) (account_of self.old).now) }
-        ensures cases { MatchResult result (λ _. IsOkAnd call (λ call. self.new ≡ logged self.old number (call_of call))) (λ _. self.new ≡ starved_once self.old) }
+        ensures cases { MatchResult result (λ _. IsOkAnd call
+            (λ call. self.new ≡ logged self.old number (call_of call))) (λ _. self.new ≡ starved_once self.old) }
         ensures count { faults_of self.old ≤ faults_of self.new }
         ensures rose { OnErr result (Rose (faults_of self.old) (faults_of self.new)) }
     {
