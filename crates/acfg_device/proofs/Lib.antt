@@ -3,4 +3,8 @@ pub mod Carried
 pub mod Cuts
 pub mod Moments
 pub mod Naming
+pub mod OnlyThen
+pub mod Ranges
 pub mod Read
+pub mod Runs
+pub mod Settling

@@ -2,4 +2,6 @@ pub mod Account
 pub mod Calls
 pub mod Disk
 pub mod Left
+pub mod Only
+pub mod Outcomes
 pub mod Panel
