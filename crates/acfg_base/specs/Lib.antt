@@ -1,4 +1,7 @@
+pub mod Bodies
+pub mod Codes
 pub mod Maps
 pub mod Names
+pub mod Paths
 pub mod Places
 pub mod Release

@@ -114,7 +114,8 @@ impl Rule for ContainerRule {
     }
 }
 
-/// The name of a flag or of a namespace, as AOSP aconfig has them: `[a-z][a-z0-9_]*` without `__`, of at most 255 bytes.
+/// The name of a flag or of a namespace, as AOSP aconfig has them: `[a-z][a-z0-9_]*` without `__`, of at most 255
+/// bytes.
 pub type Name = Lawful<NameRule>;
 
 /// The name of a package: two or more names joined by `.`, of at most 255 bytes.
