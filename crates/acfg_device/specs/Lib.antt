@@ -2,4 +2,5 @@ pub mod Account
 pub mod Calls
 pub mod Disk
 pub mod Left
+pub mod Only
 pub mod Panel

@@ -77,6 +77,8 @@ pub trait Panel {
         ensures account_err { IsTrue tells → OnErr result ((account self.new ≡ account self.old) ⊎ ((part rest : List ℕ) × (bytes.now ≡ part ++ rest)
             × (account self.new ≡ moved_on (account self.old) (after_say (account self.old).now part) part))) }
         ensures files { files self.new ≡ files self.old }
+        ensures names { (account self.new).now.names ≡ (account self.old).now.names }
+        ensures pending { (account self.new).now.pending ≡ (account self.old).now.pending }
         ensures count { faults self.old ≤ faults self.new }
         ensures failed { OnErr result (Rose (faults self.old) (faults self.new)) };
 

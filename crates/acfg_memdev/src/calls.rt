@@ -64,6 +64,8 @@ impl Panel for MemDevice {
         ensures account_err { IsTrue true → OnErr result ((account_of self.new ≡ account_of self.old) ⊎ ((part rest : List ℕ) × (bytes.now ≡ part ++ rest)
             × (account_of self.new ≡ moved_on (account_of self.old) (after_say (account_of self.old).now part) part))) }
         ensures files { files_of self.new ≡ files_of self.old }
+        ensures names { (account_of self.new).now.names ≡ (account_of self.old).now.names }
+        ensures pending { (account_of self.new).now.pending ≡ (account_of self.old).now.pending }
         ensures count { faults_of self.old ≤ faults_of self.new }
         ensures failed { OnErr result (Rose (faults_of self.old) (faults_of self.new)) }
     {
