@@ -1,4 +1,5 @@
 pub mod Bodies
+pub mod Bytes
 pub mod Codes
 pub mod Maps
 pub mod Names

@@ -2,7 +2,8 @@
 
 ghost use Rattle.std.specs.Prelude.{◌≡◌, ◌≤◌, ◌++◌, ◌⊎◌, ℕ, List, Option, IfOk, OnOk, OnErr, IsTrue, Result};
 ghost use Rattle.std.specs.FinMap.{empty};
-ghost use Rattle.acfg_device.specs.Panel.{Files, Rose, SaysPart};
+ghost use Rattle.acfg_device.specs.Only.{OnlyReads, OnlySays};
+ghost use Rattle.acfg_device.specs.Panel.{Files, SaysPart};
 ghost use Rattle.acfg_model.specs.State.{State};
 ghost use Rattle.acfg_daemon.specs.Lines.{lines};
 ghost use Rattle.acfg_daemon.specs.Replies.{IsNumbered};
@@ -31,14 +32,15 @@ const TOO_LONG: u8 = 12;
 pub fn rehearse<P: Panel>(alloc: Global, panel: &mut P, script: &[u8]) -> Result<(), DaemonFault>
     // Where the panel tells its files and words: with `Ok` the transcript was said; whatever ends the script, a first
     // part of it was said, and a part of each transcript.
-    ensures told { IsTrue P.tells → OnOk result ((text : List ℕ) × Transcript (P.files panel.old) empty 1 (lines script.now) text × (P.said panel.new ≡ P.said panel.old ++ text)) }
-    ensures begun { IsTrue P.tells → (text : List ℕ) × Begins (P.files panel.old) empty 1 (lines script.now) text × (P.said panel.new ≡ P.said panel.old ++ text) }
-    ensures part { IsTrue P.tells → (text : List ℕ) → Transcript (P.files panel.old) empty 1 (lines script.now) text → SaysPart (P.said panel.old) (P.said panel.new) text }
+    ensures told { IsTrue P.tells → OnOk result ((text : List ℕ) × Transcript (P.files panel.old) empty 1 (lines script.now) text
+        × (P.said panel.new ≡ P.said panel.old ++ text)) }
+    ensures begun { IsTrue P.tells → (text : List ℕ) × Begins (P.files panel.old) empty 1 (lines script.now) text
+        × (P.said panel.new ≡ P.said panel.old ++ text) }
+    ensures part { IsTrue P.tells → (text : List ℕ) → Transcript (P.files panel.old) empty 1 (lines script.now) text
+        → SaysPart (P.said panel.old) (P.said panel.new) text }
 
     // Of every panel.
-    ensures files { P.files panel.new ≡ P.files panel.old }
-    ensures count { P.faults panel.old ≤ P.faults panel.new }
-    ensures failed { result ≡ Err DaemonFault.Device → Rose (P.faults panel.old) (P.faults panel.new) }
+    ensures says { OnlySays P.Panel panel.old panel.new (result ≡ Err DaemonFault.Device) }
 {
     let mut machine = Machine::new(alloc);
     let mut number = 0;
@@ -60,11 +62,13 @@ fn take_line<P: Panel>(
     number: usize,
     line: &[u8],
 ) -> Result<(), DaemonFault>
-    ensures ok { IsTrue P.tells → OnOk result ((said : List ℕ) × LineSays (P.files panel.old) machine.old number line.now machine.new said × (P.said panel.new ≡ P.said panel.old ++ said)) }
-    ensures err { IsTrue P.tells → OnErr result ((part : List ℕ) × BeginsLine (P.files panel.old) machine.old number line.now part × (P.said panel.new ≡ P.said panel.old ++ part)) }
-    ensures files { P.files panel.new ≡ P.files panel.old }
-    ensures count { P.faults panel.old ≤ P.faults panel.new }
-    ensures failed { result ≡ Err DaemonFault.Device → Rose (P.faults panel.old) (P.faults panel.new) }
+    ensures ok { IsTrue P.tells → OnOk result ((said : List ℕ)
+        × LineSays (P.files panel.old) machine.old number line.now machine.new said
+        × (P.said panel.new ≡ P.said panel.old ++ said)) }
+    ensures err { IsTrue P.tells → OnErr result ((part : List ℕ)
+        × BeginsLine (P.files panel.old) machine.old number line.now part
+        × (P.said panel.new ≡ P.said panel.old ++ part)) }
+    ensures says { OnlySays P.Panel panel.old panel.new (result ≡ Err DaemonFault.Device) }
 {
     let reply = answer(alloc, panel, machine, number, line)?;
     panel.say(&reply)?;
@@ -79,11 +83,9 @@ fn answer<P: Panel>(
     number: usize,
     line: &[u8],
 ) -> Result<Vec<u8>, DaemonFault>
-    ensures told { IsTrue P.tells → IfOk result (λ reply. LineSays (P.files panel.old) machine.old number line.now machine.new reply.items) }
-    ensures files { P.files panel.new ≡ P.files panel.old }
-    ensures said { P.said panel.new ≡ P.said panel.old }
-    ensures count { P.faults panel.old ≤ P.faults panel.new }
-    ensures failed { result ≡ Err DaemonFault.Device → Rose (P.faults panel.old) (P.faults panel.new) }
+    ensures told { IsTrue P.tells
+        → IfOk result (λ reply. LineSays (P.files panel.old) machine.old number line.now machine.new reply.items) }
+    ensures reads { OnlyReads P.Panel panel.old panel.new (result ≡ Err DaemonFault.Device) }
 {
     match read_line(line) {
         Arrived::BadLine => Ok(bad_line_text(alloc, number)?),
@@ -111,10 +113,7 @@ fn serve<P: Panel>(
 ) -> Result<Reply, DaemonFault>
     ensures told { IsTrue P.tells → IfOk result (Serves (P.files panel.old) machine.old text.now machine.new) }
     ensures numbered { IfOk result IsNumbered }
-    ensures files { P.files panel.new ≡ P.files panel.old }
-    ensures said { P.said panel.new ≡ P.said panel.old }
-    ensures count { P.faults panel.old ≤ P.faults panel.new }
-    ensures failed { result ≡ Err DaemonFault.Device → Rose (P.faults panel.old) (P.faults panel.new) }
+    ensures reads { OnlyReads P.Panel panel.old panel.new (result ≡ Err DaemonFault.Device) }
 {
     let Some(request) = parse_request(alloc, text)? else {
         return Ok(Reply::Refused(BAD_REQUEST));
