@@ -15,13 +15,8 @@ use crate::replies::reply_text;
 use crate::requests::parse_request;
 use crate::sources::load;
 use acfg_device::Panel;
-use acfg_model::{Machine, Reply};
+use acfg_model::{Machine, Refusal, Reply};
 use std::alloc::{AllocError, Global};
-
-// The numbers of the refusals that aren't the machine's.
-const BAD_REQUEST: u8 = 1;
-
-const TOO_LONG: u8 = 12;
 
 /// Answers a script on an empty machine in memory: one line said for each line of the script, after its step and
 /// before the next line is taken. An update reads `DIR/flags.aconfig`.
@@ -89,7 +84,7 @@ fn answer<P: Panel>(
 {
     match read_line(line) {
         Arrived::BadLine => Ok(bad_line_text(alloc, number)?),
-        Arrived::TooLong(client) => Ok(reply_text(alloc, client, &Reply::Refused(TOO_LONG))?),
+        Arrived::TooLong(client) => Ok(reply_text(alloc, client, &Reply::Refused(Refusal::TooLong.number()))?),
         Arrived::Complete(client, text) => {
             let reply = serve(alloc, panel, machine, text)?;
             Ok(reply_text(alloc, client, &reply)?)
@@ -116,7 +111,7 @@ fn serve<P: Panel>(
     ensures reads { OnlyReads P.Panel panel.old panel.new (result ≡ Err DaemonFault.Device) }
 {
     let Some(request) = parse_request(alloc, text)? else {
-        return Ok(Reply::Refused(BAD_REQUEST));
+        return Ok(Reply::Refused(Refusal::BadRequest.number()));
     };
     let loaded = load(alloc, panel, &request)?;
     Ok(machine.step(alloc, &request, loaded)?)
