@@ -6,7 +6,7 @@ use Rattle.acfg_device.specs.declared.panel.ReadFault.TheVariants as read
 use Rattle.acfg_daemon.specs.declared.fault.DaemonFault.{DaemonFault}
 use Rattle.acfg_daemon.specs.declared.fault.DaemonFault.TheVariants as daemon
 use Rattle.acfg_top.specs.declared.ending.Ending.{Ending}
-use Rattle.acfg_top.specs.declared.ending.Ending.TheVariants as ending
+use Rattle.acfg_top.specs.declared.ending.Ending.TheVariants as end
 use Rattle.acfg_top.specs.declared.ending.Stop.{Stop}
 use Rattle.acfg_top.specs.declared.ending.Stop.TheVariants.{Failed, OutOfMemory}
 use Rattle.acfg_top.specs.declared.told.Refusal.{Refusal}
@@ -29,15 +29,15 @@ abbrev pub stop_of_daemon : DaemonFault → Stop
 stop_of_daemon daemon.Device = Failed
 stop_of_daemon daemon.OutOfMemory = OutOfMemory
 
-abbrev pub ending_of : Outcome → Ending
-ending_of Usage = ending.Usage
-ending_of (Refused file what) = ending.Refused
-ending_of (Done text writes) = ending.Done
+-- how a command ends with an outcome, which isn't the usage
+abbrev pub IsEnding : Outcome → Ending → Type 0
+IsEnding Usage answer = ⊥
+IsEnding (Refused file what) answer = answer ≡ end.Refused
+IsEnding (Done text writes) answer = answer ≡ end.Done
 
 abbrev pub status_of : Result Ending Stop → ℕ
-status_of (Ok ending.Done) = 0
-status_of (Ok ending.Usage) = 1
-status_of (Ok ending.Refused) = 2
+status_of (Ok end.Done) = 0
+status_of (Ok end.Refused) = 2
 status_of (Err Failed) = 4
 status_of (Err OutOfMemory) = 5
 
@@ -48,7 +48,7 @@ refusal_words (refusal.Text place what) = fault_words place what
 
 -- what is to be told is that of an outcome that writes no file
 pub record IsOf (outcome : Outcome) (told : Told) : Type 0 where
-  pub ending : told.ending ≡ ending_of outcome
+  pub ending : IsEnding outcome told.ending
   pub text : string_bytes told.text ≡ said_for outcome
   pub nothing : writes_of outcome ≡ []
 
@@ -56,5 +56,5 @@ pub record IsOf (outcome : Outcome) (told : Told) : Type 0 where
 pub record Comes {P : Type 0} (panel : Ghosts P) (gives : Outcome → Type 0) (answer : Ending) (before after : P) : Type 0 where
   pub outcome : Outcome
   pub given : gives outcome
-  pub is : answer ≡ ending_of outcome
+  pub is : IsEnding outcome answer
   pub done : IsDone panel outcome before after
