@@ -64,6 +64,7 @@ module _ {P : Type 0} {panel : Ghosts P} {first second : P} {fails : Type 0} whe
     count = reads.count;
     failed = reads.failed;
   }
+<<<<<<< HEAD
 
   -- more files may have changed
   pub changes_more : (some changed : List ℕ → Type 0) → ((name : List ℕ) → some name → changed name) → OnlyChanges panel some first second fails → OnlyChanges panel changed first second fails
@@ -73,3 +74,5 @@ module _ {P : Type 0} {panel : Ghosts P} {first second : P} {fails : Type 0} whe
     count = changes.count;
     failed = changes.failed;
   }
+=======
+>>>>>>> tighten
