@@ -12,7 +12,8 @@ use Rattle.acfg_base.specs.declared.releases.Entry.{Entry}
 use Rattle.acfg_base.specs.declared.releases.Kind.TheVariants.{ReadWrite}
 use Rattle.acfg_base.specs.Places.{AreInOrder}
 use Rattle.acfg_base.specs.declared.releases.Kind.{Kind}
-use Rattle.acfg_base.specs.Release.{Key, ReleaseMap, key_cmp, key_of, facts_of, entry_at, release_of, entries_of, HasTwins, SomeStepDown}
+use Rattle.acfg_base.specs.Release.{Key, ReleaseMap, key_cmp, key_of, facts_of, entry_at, release_of, entries_of, HasTwins}
+use Rattle.acfg_base.specs.Bodies.{SomeStepDown}
 use Rattle.acfg_base.proofs.Rows.{T_of, first_true, second_true, Less_of, Equal_of, entries-map_of, len-map_of, map_of-permuted, true_of, AreInOrder-map}
 
 pub key_total : IsTotalOrder key_cmp

@@ -2,7 +2,8 @@
 use Rattle.std.proofs.Common.{◌≡◌, ◌≢◌, ℕ, ◌+◌, ◌<◌, List, ◌∷◌, length, get_or, refl, sym, ap, ◌∙◌, ⊎_elim, ◌⊎◌, inl, inr, subst, arith, add-one, zero, suc, ◌-◌}
 use Rattle.std.proofs.lemmas.Bool.{cases_lt}
 use Rattle.std.proofs.lemmas.List.{get_or_past}
-use Rattle.acfg_base.specs.Names.{dot, IsLetter, AreNames, MayFollow}
+use Rattle.acfg_base.specs.Names.{dot, IsLetter, AreNames}
+use Rattle.acfg_base.specs.Bodies.{MayFollow}
 
 -- the byte before a place, and a dot before the first
 abbrev pub before : List ℕ → ℕ → ℕ

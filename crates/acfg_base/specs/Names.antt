@@ -1,4 +1,5 @@
--- The names of AOSP aconfig's declarations: flags, namespaces, packages and containers, each by all positions of its text.
+-- The names of AOSP aconfig's declarations: flags, namespaces, packages and containers, each by all positions of its
+-- text.
 use Rattle.std.specs.Prelude.{◌≡◌, ◌≢◌, ℕ, ◌+◌, ◌≤◌, ◌⊎◌, List, length, slice_index, EachIndex, Contains}
 
 -- `.` and `_`
@@ -20,7 +21,8 @@ IsDigit byte = (48 ≤ byte) × (byte ≤ 57)
 abbrev pub IsNameByte : ℕ → Type 0
 IsNameByte byte = IsLetter byte ⊎ IsDigit byte ⊎ (byte ≡ underscore)
 
--- One or more names, `[a-z][a-z0-9_]*` without `__`, joined by dots. Behind a text's end `slice_index` gives 0, which is no letter.
+-- One or more names, `[a-z][a-z0-9_]*` without `__`, joined by dots. Behind a text's end `slice_index` gives 0, which
+-- is no letter.
 pub record AreNames (text : List ℕ) : Type 0 where
   pub begins : IsLetter (slice_index text 0)
   pub bytes : EachIndex text (λ i. IsNameByte (slice_index text i) ⊎ (slice_index text i ≡ dot))
@@ -43,9 +45,3 @@ pub record IsPackage (text : List ℕ) : Type 0 where
 pub record IsContainer (text : List ℕ) : Type 0 where
   pub bound : length text ≤ 100
   pub names : AreNames text
-
--- what a byte's place behind another one asks of it, by the same rules
-pub record MayFollow (previous byte : ℕ) : Type 0 where
-  pub bytes : IsNameByte byte ⊎ (byte ≡ dot)
-  pub behind_dot : previous ≡ dot → IsLetter byte
-  pub behind_underscore : previous ≡ underscore → byte ≢ underscore

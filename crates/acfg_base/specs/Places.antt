@@ -1,5 +1,6 @@
 -- Rows in order of their keys: where a key stands, and which finite maps they make.
-use Rattle.std.specs.Prelude.{◌≡◌, ℕ, ◌<◌, ◌≤◌, List, length, map, filter_map, slice_index_or, Option, option_map, Result, MatchResult, IsTrue}
+use Rattle.std.specs.Prelude.{◌≡◌, ℕ, ◌<◌, ◌≤◌, List, length, map, filter_map, slice_index_or, IsTrue}
+use Rattle.std.specs.Prelude.{Option, option_map, Result, MatchResult}
 use Rattle.std.specs.declared.cmp.Ordering.{Ordering}
 use Rattle.std.specs.declared.cmp.Ordering.TheVariants.{Less, Equal, Greater}
 use Rattle.std.specs.FinMap.{FinMap, from_entries, find, is_sorted}

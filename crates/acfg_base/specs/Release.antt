@@ -1,31 +1,12 @@
 -- Releases: which flags a container has, each with its kind and value, as AOSP aconfig_storage_file keeps them.
-use Rattle.std.specs.Prelude.{◌≡◌, refl, ℕ, ◌==◌, if◌then◌else◌, ◌+◌, ◌<◌, Bool, false, List, map, length, slice_index_or, count_by}
+use Rattle.std.specs.Prelude.{ℕ, ◌<◌, Bool, List, map, count_by}
 use Rattle.std.specs.declared.cmp.Ordering.{Ordering}
-use Rattle.std.specs.Ordering.{nat_cmp, ordering_then, eq_by_cmp, is_lt}
+use Rattle.std.specs.Ordering.{nat_cmp, ordering_then, eq_by_cmp}
 use Rattle.std.specs.Cmp.Lexicographic.{slice_cmp}
-use Rattle.std.specs.FinMap.{FinMap, code, entries}
-use Rattle.std.specs.Coded.{Coded, code_by, coded×, coded_bool, coded_list, coded_ℕ}
+use Rattle.std.specs.FinMap.{FinMap, entries}
 use Rattle.acfg_base.specs.Places.{map_of}
 use Rattle.acfg_base.specs.declared.releases.Kind.{Kind}
-use Rattle.acfg_base.specs.declared.releases.Kind.TheVariants.{ReadWrite, ReadOnly, Fixed}
 use Rattle.acfg_base.specs.declared.releases.Entry.{Entry}
-
--- a kind as a number, and back, by which a value of it is stored
-abbrev pub kind_number : Kind → ℕ
-kind_number ReadWrite = 0
-kind_number ReadOnly = 1
-kind_number Fixed = 2
-
-abbrev pub numbered_kind : ℕ → Kind
-numbered_kind n = if n == 0 then ReadWrite else (if n == 1 then ReadOnly else Fixed)
-
-abbrev pub kind_code : Coded Kind
-kind_code = code_by ℕ coded_ℕ kind_number numbered_kind numbered_back
-  where
-    numbered_back : (kind : Kind) → numbered_kind (kind_number kind) ≡ kind
-    numbered_back ReadWrite = refl
-    numbered_back ReadOnly = refl
-    numbered_back Fixed = refl
 
 -- what names a flag: its package and its own name
 abbrev pub Key : Type 0
@@ -38,12 +19,6 @@ key_cmp a b = ordering_then (slice_cmp nat_cmp a.0 b.0) (slice_cmp nat_cmp a.1 b
 -- a release: a finite map from flags to kinds and values
 abbrev pub ReleaseMap : Type 0
 ReleaseMap = FinMap key_cmp (Kind × Bool)
-
-abbrev pub key_code : Coded Key
-key_code = coded× (coded_list coded_ℕ) (coded_list coded_ℕ)
-
-abbrev pub release_code : Coded ReleaseMap
-release_code = code key_code (coded× kind_code coded_bool)
 
 abbrev pub key_of : Entry → Key
 key_of entry = (entry.package, entry.flag)
@@ -67,7 +42,3 @@ entries_of release = map entry_at (entries release)
 -- some key is that of more than one entry
 abbrev pub HasTwins : List Entry → Type 0
 HasTwins list = (key : Key) × (1 < count_by (λ entry. eq_by_cmp key_cmp key (key_of entry)) list)
-
--- some entry's key isn't below the next one's
-abbrev pub SomeStepDown : List Entry → Type 0
-SomeStepDown list = (k : ℕ) × (k + 1 < length list) × ((d : Entry) → is_lt (key_cmp (key_of (slice_index_or list k d)) (key_of (slice_index_or list (k + 1) d))) ≡ false)

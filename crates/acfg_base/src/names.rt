@@ -1,7 +1,8 @@
 //! Which texts are names of flags, packages and containers.
 
 ghost use Rattle.std.specs.Prelude.{◌≡◌, ◌↔◌, IsTrue, Contains};
-ghost use Rattle.acfg_base.specs.Names.{dot, IsName, IsPackage, IsContainer, AreNames, MayFollow};
+ghost use Rattle.acfg_base.specs.Bodies.{MayFollow};
+ghost use Rattle.acfg_base.specs.Names.{dot, IsName, IsPackage, IsContainer, AreNames};
 
 /// Whether a text names a flag or a namespace: `[a-z][a-z0-9_]*` without `__`, of at most 255 bytes.
 pub fn is_name(text: &[u8]) -> bool

@@ -1,154 +1,125 @@
 //! Lawful names that own their text. Contracts see each as the list of its bytes.
 
-ghost use Rattle.std.specs.Prelude.{◌≡◌, IfOk};
+ghost use Rattle.std.specs.Prelude.{◌≡◌, ◌↔◌, List, ℕ, IfOk, IsTrue};
 ghost use Rattle.std.specs.Option.{SomeIff};
-ghost use Rattle.acfg_base.specs.Names.{IsName, IsPackage, IsContainer};
 
 use crate::memory::OutOfMemory;
 use crate::names::{is_container, is_name, is_package};
 use std::alloc::{AllocError, Global};
-use std::marker::Model;
+use std::marker::{Model, PhantomData};
 
-/// The name of a flag or of a namespace, as AOSP aconfig has them: `[a-z][a-z0-9_]*` without `__`, of at most 255 bytes.
-#[derive(Debug, Drop)]
-pub struct Name {
-    text: String,
+/// A rule that texts meet.
+pub trait Rule {
+    /// The texts that meet it.
+    ghost IsLawful: { List ℕ → Type 0 };
+
+    /// Whether a text meets it.
+    fn admits(text: &[u8]) -> bool
+        ensures { IsTrue result ↔ IsLawful text.now };
 }
 
-impl Model for Name {
+/// A text that meets a rule, and owns its bytes.
+#[derive(Debug, Drop)]
+pub struct Lawful<R: Rule> {
+    text: String,
+    rule: PhantomData<R>,
+}
+
+impl<R: Rule> Model for Lawful<R> {
     ghost use Rattle.std.specs.Prelude.{List, ℕ};
     ghost use Rattle.std.specs.String.{string_bytes};
+
+    ghost Value = { List ℕ };
+
+    ghost view = { λ name. string_bytes name.text };
+
+    ghost invariant = { λ name. R.IsLawful (string_bytes name.text) };
+}
+
+impl<R: Rule> Lawful<R> {
+    /// The name that a text is, where it is one.
+    pub fn parse(alloc: Global, text: &str) -> Result<Option<Lawful<R>>, OutOfMemory>
+        ensures { IfOk result (λ name. SomeIff name (R.IsLawful text.now) text.now) }
+    {
+        if !R::admits(text.as_bytes()) {
+            return Ok(None);
+        }
+        let text = String::from_str(alloc, text)?;
+        Ok(Some(Lawful {
+            text,
+            rule: PhantomData,
+        }))
+    }
+
+    /// The text of the name.
+    pub fn as_str(&self) -> &str
+        ensures text { result.now ≡ self.now }
+        ensures lawful { R.IsLawful self.now }
+    {
+        self.text.as_str()
+    }
+}
+
+impl<R: Rule> Clone for Lawful<R> {
+    ghost is_clone = { λ name copy. copy ≡ name };
+
+    fn clone(&self) -> Result<Lawful<R>, AllocError> {
+        let text = self.text.clone()?;
+        Ok(Lawful {
+            text,
+            rule: PhantomData,
+        })
+    }
+}
+
+/// The rule of names of flags and namespaces.
+#[derive(Clone, Copy, Debug)]
+pub struct NameRule;
+
+impl Rule for NameRule {
     ghost use Rattle.acfg_base.specs.Names.{IsName};
 
-    ghost Value = { List ℕ };
+    ghost IsLawful = { IsName };
 
-    ghost view = { λ name. string_bytes name.text };
-
-    ghost invariant = { λ name. IsName (string_bytes name.text) };
-}
-
-impl Name {
-    /// The name that a text is, where it is one.
-    pub fn parse(alloc: Global, text: &str) -> Result<Option<Name>, OutOfMemory>
-        ensures { IfOk result (λ name. SomeIff name (IsName text.now) text.now) }
-    {
-        if !is_name(text.as_bytes()) {
-            return Ok(None);
-        }
-        let text = String::from_str(alloc, text)?;
-        Ok(Some(Name { text }))
-    }
-
-    /// The text of the name.
-    pub fn as_str(&self) -> &str
-        ensures text { result.now ≡ self.now }
-        ensures lawful { IsName self.now }
-    {
-        self.text.as_str()
+    fn admits(text: &[u8]) -> bool {
+        is_name(text)
     }
 }
 
-impl Clone for Name {
-    ghost is_clone = { λ name copy. copy ≡ name };
+/// The rule of names of packages.
+#[derive(Clone, Copy, Debug)]
+pub struct PackageRule;
 
-    fn clone(&self) -> Result<Name, AllocError> {
-        let text = self.text.clone()?;
-        Ok(Name { text })
-    }
-}
-
-/// The name of a package: two or more names joined by `.`, of at most 255 bytes.
-#[derive(Debug, Drop)]
-pub struct PackageName {
-    text: String,
-}
-
-impl Model for PackageName {
-    ghost use Rattle.std.specs.Prelude.{List, ℕ};
-    ghost use Rattle.std.specs.String.{string_bytes};
+impl Rule for PackageRule {
     ghost use Rattle.acfg_base.specs.Names.{IsPackage};
 
-    ghost Value = { List ℕ };
+    ghost IsLawful = { IsPackage };
 
-    ghost view = { λ name. string_bytes name.text };
-
-    ghost invariant = { λ name. IsPackage (string_bytes name.text) };
-}
-
-impl PackageName {
-    /// The package's name that a text is, where it is one.
-    pub fn parse(alloc: Global, text: &str) -> Result<Option<PackageName>, OutOfMemory>
-        ensures { IfOk result (λ name. SomeIff name (IsPackage text.now) text.now) }
-    {
-        if !is_package(text.as_bytes()) {
-            return Ok(None);
-        }
-        let text = String::from_str(alloc, text)?;
-        Ok(Some(PackageName { text }))
-    }
-
-    /// The text of the name.
-    pub fn as_str(&self) -> &str
-        ensures text { result.now ≡ self.now }
-        ensures lawful { IsPackage self.now }
-    {
-        self.text.as_str()
+    fn admits(text: &[u8]) -> bool {
+        is_package(text)
     }
 }
 
-impl Clone for PackageName {
-    ghost is_clone = { λ name copy. copy ≡ name };
+/// The rule of names of containers.
+#[derive(Clone, Copy, Debug)]
+pub struct ContainerRule;
 
-    fn clone(&self) -> Result<PackageName, AllocError> {
-        let text = self.text.clone()?;
-        Ok(PackageName { text })
-    }
-}
-
-/// The name of a container: one or more names joined by `.`, of at most 100 bytes.
-#[derive(Debug, Drop)]
-pub struct ContainerName {
-    text: String,
-}
-
-impl Model for ContainerName {
-    ghost use Rattle.std.specs.Prelude.{List, ℕ};
-    ghost use Rattle.std.specs.String.{string_bytes};
+impl Rule for ContainerRule {
     ghost use Rattle.acfg_base.specs.Names.{IsContainer};
 
-    ghost Value = { List ℕ };
+    ghost IsLawful = { IsContainer };
 
-    ghost view = { λ name. string_bytes name.text };
-
-    ghost invariant = { λ name. IsContainer (string_bytes name.text) };
-}
-
-impl ContainerName {
-    /// The container's name that a text is, where it is one.
-    pub fn parse(alloc: Global, text: &str) -> Result<Option<ContainerName>, OutOfMemory>
-        ensures { IfOk result (λ name. SomeIff name (IsContainer text.now) text.now) }
-    {
-        if !is_container(text.as_bytes()) {
-            return Ok(None);
-        }
-        let text = String::from_str(alloc, text)?;
-        Ok(Some(ContainerName { text }))
-    }
-
-    /// The text of the name.
-    pub fn as_str(&self) -> &str
-        ensures text { result.now ≡ self.now }
-        ensures lawful { IsContainer self.now }
-    {
-        self.text.as_str()
+    fn admits(text: &[u8]) -> bool {
+        is_container(text)
     }
 }
 
-impl Clone for ContainerName {
-    ghost is_clone = { λ name copy. copy ≡ name };
+/// The name of a flag or of a namespace, as AOSP aconfig has them: `[a-z][a-z0-9_]*` without `__`, of at most 255
+/// bytes.
+pub type Name = Lawful<NameRule>;
 
-    fn clone(&self) -> Result<ContainerName, AllocError> {
-        let text = self.text.clone()?;
-        Ok(ContainerName { text })
-    }
-}
+/// The name of a package: two or more names joined by `.`, of at most 255 bytes.
+pub type PackageName = Lawful<PackageRule>;
+
+/// The name of a container: one or more names joined by `.`, of at most 100 bytes.
+pub type ContainerName = Lawful<ContainerRule>;

@@ -3,10 +3,12 @@
 ghost use Rattle.std.specs.Prelude.{◌≡◌, ◌↔◌, IfOk, IfSome, IsNone, IsPermutation, IsSortedByKey, IsTrue};
 ghost use Rattle.std.specs.Bool.{MatchBool};
 ghost use Rattle.std.specs.FinMap.{get, len};
-ghost use Rattle.acfg_base.specs.Release.{key_of, key_cmp, release_of, entries_of, HasTwins, SomeStepDown};
-ghost use Rattle.acfg_base.specs.Places.{AreInOrder, IsPlace};
+ghost use Rattle.acfg_base.specs.Bodies.{SomeStepDown};
+ghost use Rattle.acfg_base.specs.Release.{key_of, key_cmp, release_of, entries_of, HasTwins};
+ghost use Rattle.acfg_base.specs.Places.{AreInOrder};
 
 use crate::memory::OutOfMemory;
+use crate::ordered::{FlagRow, place};
 use crate::parsed::{Name, PackageName};
 use std::alloc::{AllocError, Global};
 use std::cmp::Ordering;
@@ -32,11 +34,12 @@ pub struct Entry {
     pub value: bool,
 }
 
-impl Entry {
-    /// How the entry's key stands to another one, by package bytes and then by flag bytes.
-    pub fn compare(&self, package: &str, flag: &str) -> Ordering
-        ensures { result ≡ key_cmp (key_of self.now) («package».now, flag.now) }
-    {
+impl FlagRow for Entry {
+    ghost use Rattle.acfg_base.specs.Release.{key_of};
+
+    ghost flag_key = { key_of };
+
+    fn compare(&self, package: &str, flag: &str) -> Ordering {
         let packages = self.package.as_str().cmp(&package);
         packages.then(self.flag.as_str().cmp(&flag))
     }
@@ -50,7 +53,8 @@ pub struct Release {
 
 impl Model for Release {
     ghost use Rattle.acfg_base.specs.Places.{AreInOrder};
-    ghost use Rattle.acfg_base.specs.Release.{ReleaseMap, release_code, key_cmp, key_of, release_of};
+    ghost use Rattle.acfg_base.specs.Codes.{release_code};
+    ghost use Rattle.acfg_base.specs.Release.{ReleaseMap, key_cmp, key_of, release_of};
 
     ghost Value = { ReleaseMap };
 
@@ -149,12 +153,4 @@ fn rise(entries: &[Entry]) -> bool
     ensures { MatchBool result (AreInOrder key_cmp key_of entries.now) (SomeStepDown entries.now) }
 {
     entries.is_sorted_by(|a, b| a.compare(b.package.as_str(), b.flag.as_str()).is_lt())
-}
-
-// Where a flag stands among entries in order, or where it would stand.
-fn place(entries: &[Entry], package: &str, flag: &str) -> Result<usize, usize>
-    requires { AreInOrder key_cmp key_of entries.now }
-    ensures { IsPlace key_cmp key_of entries.now («package».now, flag.now) result }
-{
-    entries.binary_search_by(|entry| entry.compare(package, flag))
 }

@@ -1,4 +1,4 @@
-use crate::{ContainerName, Entry, Kind, Name, OutOfMemory, PackageName, Release};
+use crate::{ContainerName, Entry, Kind, Name, OutOfMemory, PackageName, Release, is_path};
 use std::alloc::Global;
 use std::process::Abort;
 use std::test::Fail;
@@ -48,12 +48,12 @@ fn names_are_parsed_by_their_rules(rt: HostRuntime) -> Result<(), Fail> {
             "{text}"
         );
         assert_eq!(rt;
-            PackageName::parse(rt.alloc(), text)?.is_some(),
+            share(&PackageName::parse(rt.alloc(), text)?).is_some(),
             package,
             "{text}"
         );
         assert_eq!(rt;
-            ContainerName::parse(rt.alloc(), text)?.is_some(),
+            share(&ContainerName::parse(rt.alloc(), text)?).is_some(),
             container,
             "{text}"
         );
@@ -61,6 +61,19 @@ fn names_are_parsed_by_their_rules(rt: HostRuntime) -> Result<(), Fail> {
     let name = Name::parse(rt.alloc(), "new_page")?.expect(&rt, "a name");
     assert_eq!(rt; share(&name).as_str(), "new_page");
     Ok(())
+}
+
+#[test]
+fn paths_are_told_from_other_texts(rt: HostRuntime) {
+    let table = [
+        ("a", true),
+        ("-a b/\u{fc}", true),
+        ("", false),
+        ("a\nb", false),
+    ];
+    for (text, path) in table {
+        assert_eq!(rt; is_path(text), path, "{text}");
+    }
 }
 
 #[test]

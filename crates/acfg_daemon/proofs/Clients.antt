@@ -8,8 +8,10 @@ use Rattle.std.proofs.lemmas.Fmt.{decimal_digit, decimal_nonempty, first_decimal
 use Rattle.std.proofs.lemmas.Str.Parse.{IsNumeralModel, numerals_by_value, tells_by_index, parse_plain}
 use Rattle.std.proofs.lemmas.Str.{IsUtf8-from_ascii}
 use Rattle.std.specs.Str.{IsUtf8}
-use Rattle.acfg_daemon.specs.Requests.{space, Finds}
-use Rattle.acfg_daemon.specs.Lines.{BeginsPlainly, IsGood}
+use Rattle.acfg_base.specs.Bytes.{space}
+use Rattle.acfg_daemon.specs.Requests.{Finds}
+use Rattle.acfg_daemon.specs.Bodies.{BeginsPlainly}
+use Rattle.acfg_daemon.specs.Lines.{IsGood}
 use Rattle.acfg_daemon.proofs.Cuts.{Lacks, Cut, same_cut, lacks_not}
 
 abbrev AllDigit : List ℕ → Type 0

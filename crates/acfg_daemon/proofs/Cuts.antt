@@ -4,7 +4,8 @@ use Rattle.std.specs.List.{onto_first}
 use Rattle.std.proofs.lemmas.Bool.{ne_eqb, eqb-true}
 use Rattle.std.proofs.lemmas.List.{take-append-drop, length-take, get_or-take}
 use Rattle.memchr.specs.Find.{IsFirstByte, is_byte}
-use Rattle.acfg_daemon.specs.Lines.{lines, line_feed}
+use Rattle.acfg_base.specs.Bytes.{line_feed}
+use Rattle.acfg_daemon.specs.Lines.{lines}
 
 -- the byte stands nowhere in the text
 pub record Lacks (text : List ℕ) (byte : ℕ) : Type 0 where

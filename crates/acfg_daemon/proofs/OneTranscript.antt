@@ -16,7 +16,7 @@ use Rattle.acfg_daemon.specs.Replies.{reply_line}
 use Rattle.acfg_daemon.specs.Lines.{Event, Complete, TooLong, BadLine, IsEvent}
 use Rattle.acfg_text.specs.Containers.{container_read}
 use Rattle.acfg_daemon.specs.Sources.{BytesLoad, FileLoads, Loads, source_entries, source_path}
-use Rattle.acfg_daemon.specs.Transcript.{Serves, Says, LineSays, Transcript, Begins}
+use Rattle.acfg_daemon.specs.Transcript.{Serves, EventSays, LineSays, Transcript, Begins}
 use Rattle.acfg_daemon.proofs.Clients.{good_unique}
 use Rattle.acfg_daemon.proofs.Words.{words_from_spelled}
 
@@ -101,7 +101,7 @@ serves_unique files state text after after' reply reply' one other = elim one [
   ]
 ]
 
-says_unique : (files : Files) (state : State) (event : Event) (after after' : State) (said said' : List ℕ) → Says files state event after said → Says files state event after' said' → (after ≡ after') × (said ≡ said')
+says_unique : (files : Files) (state : State) (event : Event) (after after' : State) (said said' : List ℕ) → EventSays files state event after said → EventSays files state event after' said' → (after ≡ after') × (said ≡ said')
 says_unique files state (Complete client text) after after' said said' one other =
     let same = serves_unique files state text after after' one.0 other.0 one.1 other.1 in
     (same.0, one.2 ∙ ap (reply_line client) same.1 ∙ sym other.2)
@@ -112,7 +112,7 @@ says_unique files state (BadLine number) after after' said said' one other = (on
 pub line_unique : (files : Files) (state : State) (number : ℕ) (line : List ℕ) (after after' : State) (said said' : List ℕ) → LineSays files state number line after said → LineSays files state number line after' said' → (after ≡ after') × (said ≡ said')
 line_unique files state number line after after' said said' one other =
     let same = event_unique number line one.0 other.0 one.1 other.1 in
-    says_unique files state other.0 after after' said said' (subst (λ event. Says files state event after said) same one.2) other.2
+    says_unique files state other.0 after after' said said' (subst (λ event. EventSays files state event after said) same one.2) other.2
 
 pub one_transcript : (files : Files) (state : State) (number : ℕ) (lines : List (List ℕ)) (text other : List ℕ) → Transcript files state number lines text → Transcript files state number lines other → text ≡ other
 one_transcript files state number [] text other a b = a ∙ sym b

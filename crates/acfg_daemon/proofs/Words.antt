@@ -15,8 +15,9 @@ use Rattle.acfg_model.specs.declared.requests.Request.{Request}
 use Rattle.acfg_model.specs.declared.requests.Request.TheVariants.{Update, Server, Local, Unset, Boot, Get}
 use Rattle.acfg_daemon.specs.declared.requests.Verb.{Verb}
 use Rattle.acfg_daemon.specs.declared.requests.Verb.TheVariants as verb
-use Rattle.acfg_daemon.specs.Requests.{space, value_word, words_of, spelling, IsLawful, IsDirectory, AreWords, Spells, Finds}
-use Rattle.acfg_daemon.specs.Verbs.{verb_word}
+use Rattle.acfg_base.specs.Bytes.{space}
+use Rattle.acfg_daemon.specs.Requests.{value_word, words_of, spelling, IsLawful, IsDirectory, AreWords, Spells, Finds}
+use Rattle.acfg_daemon.specs.Bodies.{verb_word}
 
 -- the first word is a verb's
 first_is_verb : (first : List ℕ) (rest : List (List ℕ)) (request : Request) → AreWords (first ∷ rest) request → (verb : Verb) × (first ≡ verb_word verb)
@@ -63,7 +64,7 @@ names_word text names = record {
 }
 
 directory_word : (path : List ℕ) → IsDirectory path → IsWord path
-directory_word path is = record { whole = λ k d within. let above = is.printable k d within in ne_eqb _ _ (λ e. absurd (omega (arith, above))); text = is.text }
+directory_word path is = record { whole = λ k d within. ne_eqb _ _ (λ e. is.whole (k, within, get_or_default path k space d within ∙ e)); text = is.path.utf8 }
 
 value_is_word : (value : Bool) → IsWord (value_word value)
 value_is_word true = own_word (codes "true") refl refl

@@ -1,7 +1,6 @@
-pub mod Fault
+pub mod Bodies
 pub mod Lines
 pub mod Replies
 pub mod Requests
 pub mod Sources
 pub mod Transcript
-pub mod Verbs

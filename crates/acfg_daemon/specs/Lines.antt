@@ -1,22 +1,15 @@
 -- The lines of a script, and what each of them is: a client's request, one that is too long, or no such line.
-use Rattle.std.specs.Prelude.{◌≡◌, ◌≢◌, ℕ, ◌==◌, ◌<◌, ◌≤◌, List, [], ◌∷◌, ◌++◌, length, slice_index, if◌then◌else◌}
+use Rattle.std.specs.Prelude.{◌≡◌, ℕ, ◌==◌, ◌<◌, ◌≤◌, List, [], ◌∷◌, ◌++◌, length, if◌then◌else◌}
 use Rattle.std.specs.List.{onto_first}
 use Rattle.std.specs.Fmt.{decimal}
-use Rattle.acfg_daemon.specs.declared.lines.Arrived.{Arrived}
-use Rattle.acfg_daemon.specs.declared.lines.Arrived.TheVariants as arrived
-use Rattle.acfg_daemon.specs.Requests.{space}
-
-abbrev pub line_feed : ℕ
-line_feed = 10
-
-abbrev pub backslash : ℕ
-backslash = 92
+use Rattle.acfg_base.specs.Bytes.{backslash, line_feed, space}
 
 -- the most bytes of a request
 abbrev pub most_bytes : ℕ
 most_bytes = 4096
 
--- the lines of a script: each ends at a line feed, and what stands behind the last line feed counts where it isn't empty
+-- the lines of a script: each ends at a line feed, and what stands behind the last line feed counts where it isn't
+-- empty
 abbrev pub lines : List ℕ → List (List ℕ)
 lines [] = []
 lines (byte ∷ bytes) = if byte == line_feed then [] ∷ lines bytes else onto_first byte (lines bytes)
@@ -24,16 +17,12 @@ lines (byte ∷ bytes) = if byte == line_feed then [] ∷ lines bytes else onto_
 abbrev pub EndsIn : List ℕ → ℕ → Type 0
 EndsIn text byte = (front : List ℕ) × (text ≡ front ++ byte ∷ [])
 
--- A good line `K PIECE`: the client's number 0 to 255 in decimal without leading zeros, one space, and any bytes that don't end in a backslash.
+-- A good line `K PIECE`: the client's number 0 to 255 in decimal without leading zeros, one space, and any bytes that
+-- don't end in a backslash.
 pub record IsGood (line : List ℕ) (client : ℕ) (piece : List ℕ) : Type 0 where
   pub bound : client < 256
   pub spelled : line ≡ decimal client ++ space ∷ piece
   pub whole : ¬ EndsIn piece backslash
-
--- the word has no `+` in front, and no `0` in front of another byte
-pub record BeginsPlainly (word : List ℕ) : Type 0 where
-  pub unsigned : slice_index word 0 ≢ 43
-  pub short : slice_index word 0 ≡ 48 → length word ≡ 1
 
 -- what a line gives
 pub data Event : Type 0 where
@@ -49,8 +38,3 @@ abbrev pub IsEvent : ℕ → List ℕ → Event → Type 0
 IsEvent number line (Complete client text) = IsGood line client text × (length text ≤ most_bytes)
 IsEvent number line (TooLong client) = (piece : List ℕ) × IsGood line client piece × (most_bytes < length piece)
 IsEvent number line (BadLine bad) = (bad ≡ number) × ((client : ℕ) (piece : List ℕ) → IsGood line client piece → ⊥)
-
-abbrev pub event_of : ℕ → Arrived → Event
-event_of number (arrived.Complete client text) = Complete client text.now
-event_of number (arrived.TooLong client) = TooLong client
-event_of number arrived.BadLine = BadLine number

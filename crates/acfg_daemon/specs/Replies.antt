@@ -1,24 +1,14 @@
 -- The line of each reply.
-use Rattle.std.specs.Prelude.{ℕ, ◌-◌, ◌≤◌, Bool, List, [], ◌∷◌, ◌++◌, Option, Some, None, codes, slice_index_or}
+use Rattle.std.specs.Prelude.{ℕ, Bool, List, [], ◌∷◌, ◌++◌, Option, Some, None, codes}
 use Rattle.std.specs.Fmt.{decimal}
 use Rattle.hex.specs.Hex.{encode_lower}
+use Rattle.acfg_base.specs.Bytes.{line_feed, space}
 use Rattle.acfg_model.specs.declared.requests.Reply.{Reply}
 use Rattle.acfg_model.specs.declared.requests.Reply.TheVariants.{Fine, Updated, Unchanged, Value, Refused}
-use Rattle.acfg_daemon.specs.Requests.{space, value_word}
+use Rattle.acfg_model.specs.Refusals.{refusal_name, IsRefusal}
+use Rattle.acfg_daemon.specs.Requests.{value_word}
 
--- the names of refusals, by their numbers from 1 on
-abbrev pub refusal_names : List (List ℕ)
-refusal_names =
-    codes "bad-request" ∷ codes "unknown-container" ∷ codes "unknown-flag" ∷ codes "read-only" ∷ codes "no-boot-copy" ∷ codes "not-booted"
-    ∷ codes "no-override" ∷ codes "missing-file" ∷ codes "bad-image" ∷ codes "files-disagree" ∷ codes "too-many-containers" ∷ codes "too-long" ∷ []
-
-abbrev pub refusal_name : ℕ → List ℕ
-refusal_name number = slice_index_or refusal_names (number - 1) []
-
--- the number is in the table of refusals
-abbrev pub IsRefusal : ℕ → Type 0
-IsRefusal number = (1 ≤ number) × (number ≤ 12)
-
+-- the number of a refusal is in the table of refusals
 abbrev pub IsNumbered : Reply → Type 0
 IsNumbered Fine = Unit {0}
 IsNumbered (Updated digest count) = Unit {0}
@@ -31,7 +21,8 @@ abbrev pub boot_word : Option Bool → List ℕ
 boot_word None = codes "none"
 boot_word (Some value) = value_word value
 
--- what is replied: a refusal by its number and name, an update by its digest in hexadecimal digits and its number of flags
+-- what is replied: a refusal by its number and name, an update by its digest in hexadecimal digits and its number of
+-- flags
 abbrev pub reply_words : Reply → List ℕ
 reply_words Fine = codes "ok"
 reply_words (Updated digest count) = codes "updated " ++ encode_lower digest ++ codes " " ++ decimal count
@@ -41,4 +32,4 @@ reply_words (Refused number) = codes "err " ++ decimal number ++ codes " " ++ re
 
 -- a client's number and a space before it, and a line feed behind it
 abbrev pub reply_line : ℕ → Reply → List ℕ
-reply_line client reply = decimal client ++ space ∷ (reply_words reply ++ 10 ∷ [])
+reply_line client reply = decimal client ++ space ∷ (reply_words reply ++ line_feed ∷ [])

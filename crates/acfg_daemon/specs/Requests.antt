@@ -1,20 +1,16 @@
 -- The text of each request: its words, with one space between each two.
-use Rattle.std.specs.Prelude.{◌≡◌, ℕ, ◌<◌, ◌≤◌, Bool, true, false, List, [], ◌∷◌, length, All, codes, Option, MatchOption}
+use Rattle.std.specs.Prelude.{◌≡◌, ℕ, Bool, true, false, List, [], ◌∷◌, Contains, codes, Option, MatchOption}
 use Rattle.std.specs.List.{join_with_byte}
-use Rattle.std.specs.Str.{IsUtf8}
+use Rattle.acfg_base.specs.Bytes.{space}
 use Rattle.acfg_base.specs.Names.{IsContainer, IsPackage, IsName}
+use Rattle.acfg_base.specs.Paths.{IsPath}
 use Rattle.acfg_model.specs.declared.requests.Request.{Request}
 use Rattle.acfg_model.specs.declared.requests.Request.TheVariants.{Update, Server, Local, Unset, Boot, Get}
 
-abbrev pub space : ℕ
-space = 32
-
--- the path of a directory: 1 to 1,024 bytes of UTF-8, none of them below 0x20 and, since it is one word, none a space
-pub record IsDirectory (path : List ℕ) : Type 0 where
-  pub some : 0 < length path
-  pub bound : length path ≤ 1024
-  pub text : IsUtf8 path
-  pub printable : All (λ byte. space < byte) path
+-- the path of a directory, which is one word
+pub record IsDirectory (text : List ℕ) : Type 0 where
+  pub path : IsPath text
+  pub whole : ¬ Contains text space
 
 -- the names are names, and the directory is a path
 abbrev pub IsLawful : Request → Type 0

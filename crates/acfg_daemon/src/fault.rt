@@ -51,7 +51,7 @@ impl<T: Drop> From<AllocFailed<T>> for DaemonFault {
 
 impl From<ReadFault> for DaemonFault {
     ghost use Rattle.std.specs.Prelude.{◌≡◌};
-    ghost use Rattle.acfg_daemon.specs.Fault.{fault_of};
+    ghost use Rattle.acfg_daemon.specs.Bodies.{fault_of};
 
     ghost from_gives = { λ fault made. made ≡ fault_of fault };
 

@@ -4,7 +4,9 @@ ghost use Rattle.std.specs.Prelude.{◌≡◌, ◌<◌, ◌↔◌, ℕ, List, �
 ghost use Rattle.std.specs.Option.{option_map};
 ghost use Rattle.std.specs.Fmt.{decimal};
 ghost use Rattle.acfg_daemon.specs.Requests.{Finds};
-ghost use Rattle.acfg_daemon.specs.Lines.{backslash, lines, EndsIn, IsGood, IsEvent, event_of, BeginsPlainly};
+ghost use Rattle.acfg_base.specs.Bytes.{backslash};
+ghost use Rattle.acfg_daemon.specs.Bodies.{event_of, BeginsPlainly};
+ghost use Rattle.acfg_daemon.specs.Lines.{lines, EndsIn, IsGood, IsEvent};
 
 use memchr::memchr;
 use std::str;

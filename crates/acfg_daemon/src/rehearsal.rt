@@ -2,7 +2,8 @@
 
 ghost use Rattle.std.specs.Prelude.{◌≡◌, ◌≤◌, ◌++◌, ◌⊎◌, ℕ, List, Option, IfOk, OnOk, OnErr, IsTrue, Result};
 ghost use Rattle.std.specs.FinMap.{empty};
-ghost use Rattle.acfg_device.specs.Panel.{Files, Rose, SaysPart};
+ghost use Rattle.acfg_device.specs.Only.{OnlyReads, OnlySays};
+ghost use Rattle.acfg_device.specs.Panel.{Files, SaysPart};
 ghost use Rattle.acfg_model.specs.State.{State};
 ghost use Rattle.acfg_daemon.specs.Lines.{lines};
 ghost use Rattle.acfg_daemon.specs.Replies.{IsNumbered};
@@ -14,13 +15,8 @@ use crate::replies::reply_text;
 use crate::requests::parse_request;
 use crate::sources::load;
 use acfg_device::Panel;
-use acfg_model::{Machine, Reply};
+use acfg_model::{Machine, Refusal, Reply};
 use std::alloc::{AllocError, Global};
-
-// The numbers of the refusals that aren't the machine's.
-const BAD_REQUEST: u8 = 1;
-
-const TOO_LONG: u8 = 12;
 
 /// Answers a script on an empty machine in memory: one line said for each line of the script, after its step and
 /// before the next line is taken. An update reads `DIR/flags.aconfig`.
@@ -31,14 +27,15 @@ const TOO_LONG: u8 = 12;
 pub fn rehearse<P: Panel>(alloc: Global, panel: &mut P, script: &[u8]) -> Result<(), DaemonFault>
     // Where the panel tells its files and words: with `Ok` the transcript was said; whatever ends the script, a first
     // part of it was said, and a part of each transcript.
-    ensures told { IsTrue P.tells → OnOk result ((text : List ℕ) × Transcript (P.files panel.old) empty 1 (lines script.now) text × (P.said panel.new ≡ P.said panel.old ++ text)) }
-    ensures begun { IsTrue P.tells → (text : List ℕ) × Begins (P.files panel.old) empty 1 (lines script.now) text × (P.said panel.new ≡ P.said panel.old ++ text) }
-    ensures part { IsTrue P.tells → (text : List ℕ) → Transcript (P.files panel.old) empty 1 (lines script.now) text → SaysPart (P.said panel.old) (P.said panel.new) text }
+    ensures told { IsTrue P.tells → OnOk result ((text : List ℕ) × Transcript (P.files panel.old) empty 1 (lines script.now) text
+        × (P.said panel.new ≡ P.said panel.old ++ text)) }
+    ensures begun { IsTrue P.tells → (text : List ℕ) × Begins (P.files panel.old) empty 1 (lines script.now) text
+        × (P.said panel.new ≡ P.said panel.old ++ text) }
+    ensures part { IsTrue P.tells → (text : List ℕ) → Transcript (P.files panel.old) empty 1 (lines script.now) text
+        → SaysPart (P.said panel.old) (P.said panel.new) text }
 
     // Of every panel.
-    ensures files { P.files panel.new ≡ P.files panel.old }
-    ensures count { P.faults panel.old ≤ P.faults panel.new }
-    ensures failed { result ≡ Err DaemonFault.Device → Rose (P.faults panel.old) (P.faults panel.new) }
+    ensures says { OnlySays P.Panel panel.old panel.new (result ≡ Err DaemonFault.Device) }
 {
     let mut machine = Machine::new(alloc);
     let mut number = 0;
@@ -60,11 +57,13 @@ fn take_line<P: Panel>(
     number: usize,
     line: &[u8],
 ) -> Result<(), DaemonFault>
-    ensures ok { IsTrue P.tells → OnOk result ((said : List ℕ) × LineSays (P.files panel.old) machine.old number line.now machine.new said × (P.said panel.new ≡ P.said panel.old ++ said)) }
-    ensures err { IsTrue P.tells → OnErr result ((part : List ℕ) × BeginsLine (P.files panel.old) machine.old number line.now part × (P.said panel.new ≡ P.said panel.old ++ part)) }
-    ensures files { P.files panel.new ≡ P.files panel.old }
-    ensures count { P.faults panel.old ≤ P.faults panel.new }
-    ensures failed { result ≡ Err DaemonFault.Device → Rose (P.faults panel.old) (P.faults panel.new) }
+    ensures ok { IsTrue P.tells → OnOk result ((said : List ℕ)
+        × LineSays (P.files panel.old) machine.old number line.now machine.new said
+        × (P.said panel.new ≡ P.said panel.old ++ said)) }
+    ensures err { IsTrue P.tells → OnErr result ((part : List ℕ)
+        × BeginsLine (P.files panel.old) machine.old number line.now part
+        × (P.said panel.new ≡ P.said panel.old ++ part)) }
+    ensures says { OnlySays P.Panel panel.old panel.new (result ≡ Err DaemonFault.Device) }
 {
     let reply = answer(alloc, panel, machine, number, line)?;
     panel.say(&reply)?;
@@ -79,15 +78,13 @@ fn answer<P: Panel>(
     number: usize,
     line: &[u8],
 ) -> Result<Vec<u8>, DaemonFault>
-    ensures told { IsTrue P.tells → IfOk result (λ reply. LineSays (P.files panel.old) machine.old number line.now machine.new reply.items) }
-    ensures files { P.files panel.new ≡ P.files panel.old }
-    ensures said { P.said panel.new ≡ P.said panel.old }
-    ensures count { P.faults panel.old ≤ P.faults panel.new }
-    ensures failed { result ≡ Err DaemonFault.Device → Rose (P.faults panel.old) (P.faults panel.new) }
+    ensures told { IsTrue P.tells
+        → IfOk result (λ reply. LineSays (P.files panel.old) machine.old number line.now machine.new reply.items) }
+    ensures reads { OnlyReads P.Panel panel.old panel.new (result ≡ Err DaemonFault.Device) }
 {
     match read_line(line) {
         Arrived::BadLine => Ok(bad_line_text(alloc, number)?),
-        Arrived::TooLong(client) => Ok(reply_text(alloc, client, &Reply::Refused(TOO_LONG))?),
+        Arrived::TooLong(client) => Ok(reply_text(alloc, client, &Reply::Refused(Refusal::TooLong.number()))?),
         Arrived::Complete(client, text) => {
             let reply = serve(alloc, panel, machine, text)?;
             Ok(reply_text(alloc, client, &reply)?)
@@ -111,13 +108,10 @@ fn serve<P: Panel>(
 ) -> Result<Reply, DaemonFault>
     ensures told { IsTrue P.tells → IfOk result (Serves (P.files panel.old) machine.old text.now machine.new) }
     ensures numbered { IfOk result IsNumbered }
-    ensures files { P.files panel.new ≡ P.files panel.old }
-    ensures said { P.said panel.new ≡ P.said panel.old }
-    ensures count { P.faults panel.old ≤ P.faults panel.new }
-    ensures failed { result ≡ Err DaemonFault.Device → Rose (P.faults panel.old) (P.faults panel.new) }
+    ensures reads { OnlyReads P.Panel panel.old panel.new (result ≡ Err DaemonFault.Device) }
 {
     let Some(request) = parse_request(alloc, text)? else {
-        return Ok(Reply::Refused(BAD_REQUEST));
+        return Ok(Reply::Refused(Refusal::BadRequest.number()));
     };
     let loaded = load(alloc, panel, &request)?;
     Ok(machine.step(alloc, &request, loaded)?)

@@ -3,10 +3,11 @@
 ghost use Rattle.std.specs.Prelude.{◌≡◌, ◌++◌, codes, IfOk, string_bytes};
 ghost use Rattle.std.specs.Fmt.{decimal};
 ghost use Rattle.hex.specs.Hex.{encode_lower};
-ghost use Rattle.acfg_daemon.specs.Replies.{IsNumbered, IsRefusal, boot_word, refusal_name, reply_words, reply_line};
+ghost use Rattle.acfg_model.specs.Refusals.{refusal_name, IsRefusal};
+ghost use Rattle.acfg_daemon.specs.Replies.{boot_word, reply_line, reply_words, IsNumbered};
 
 use acfg_base::OutOfMemory;
-use acfg_model::Reply;
+use acfg_model::{Refusal, Reply};
 use std::alloc::{AllocError, Global};
 
 /// The line of a reply to a client: the client's number, a space, the reply and a line feed. The number of a
@@ -34,7 +35,8 @@ fn words_of_reply(alloc: Global, reply: &Reply) -> Result<String, AllocError>
 }
 
 fn updated(alloc: Global, digest: &[u8; 32], count: u32) -> Result<String, AllocError>
-    ensures { IfOk result (λ words. string_bytes words ≡ codes "updated " ++ encode_lower digest.now ++ codes " " ++ decimal count) }
+    ensures { IfOk result (λ words. string_bytes words
+        ≡ codes "updated " ++ encode_lower digest.now ++ codes " " ++ decimal count) }
 {
     let digits = hex::encode(alloc, digest.as_slice())?;
     format!(in alloc; "updated {digits} {count}")
@@ -42,7 +44,8 @@ fn updated(alloc: Global, digest: &[u8; 32], count: u32) -> Result<String, Alloc
 
 fn refused(alloc: Global, number: u8) -> Result<String, AllocError>
     requires { IsRefusal number }
-    ensures { IfOk result (λ words. string_bytes words ≡ codes "err " ++ decimal number ++ codes " " ++ refusal_name number) }
+    ensures { IfOk result (λ words. string_bytes words
+        ≡ codes "err " ++ decimal number ++ codes " " ++ refusal_name number) }
 {
     let name = name_of_refusal(number);
     format!(in alloc; "err {number} {name}")
@@ -62,19 +65,8 @@ fn name_of_refusal(number: u8) -> &'static str
     requires { IsRefusal number }
     ensures { result.now ≡ refusal_name number }
 {
-    match number {
-        1 => "bad-request",
-        2 => "unknown-container",
-        3 => "unknown-flag",
-        4 => "read-only",
-        5 => "no-boot-copy",
-        6 => "not-booted",
-        7 => "no-override",
-        8 => "missing-file",
-        9 => "bad-image",
-        10 => "files-disagree",
-        11 => "too-many-containers",
-        12 => "too-long",
-        _ => unreachable!(),
+    match Refusal::numbered(number) {
+        Some(refusal) => refusal.name(),
+        None => unreachable!(),
     }
 }

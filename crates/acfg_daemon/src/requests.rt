@@ -4,11 +4,12 @@ ghost use Rattle.std.specs.Prelude.{◌≡◌, ◌==◌, ◌↔◌, ◌∷◌, m
 ghost use Rattle.std.specs.Option.{SomeIff};
 ghost use Rattle.std.specs.List.{slice_split};
 ghost use Rattle.acfg_base.specs.Names.{IsContainer, IsPackage, IsName};
-ghost use Rattle.acfg_daemon.specs.Requests.{space, value_word, Finds, IsDirectory, Spells, AreWords};
-ghost use Rattle.acfg_daemon.specs.Verbs.{verb_word};
+ghost use Rattle.acfg_base.specs.Bytes.{space};
+ghost use Rattle.acfg_daemon.specs.Requests.{value_word, Finds, IsDirectory, Spells, AreWords};
+ghost use Rattle.acfg_daemon.specs.Bodies.{verb_word};
 
-use acfg_base::{ContainerName, Name, OutOfMemory, PackageName};
-use acfg_model::{Directory, Request};
+use acfg_base::{ContainerName, Name, OutOfMemory, PackageName, Text, is_path};
+use acfg_model::Request;
 use std::alloc::{AllocError, Global};
 use std::str;
 
@@ -95,7 +96,7 @@ fn update(alloc: Global, words: &[&str]) -> Result<Option<Request>, OutOfMemory>
     let Some(container) = ContainerName::parse(alloc, container)? else {
         return Ok(None);
     };
-    let dir = Directory::new(String::from_str(alloc, dir)?);
+    let dir = Text::new(String::from_str(alloc, dir)?);
     Ok(Some(Request::Update { container, dir }))
 }
 
@@ -186,7 +187,8 @@ fn read_key(
     package: &str,
     flag: &str,
 ) -> Result<Option<Key>, OutOfMemory>
-    ensures { IfOk result (λ found. SomeIff found (IsContainer container.now × IsPackage «package».now × IsName flag.now) (record { container = container.now; «package» = «package».now; flag = flag.now })) }
+    ensures { IfOk result (λ found. SomeIff found (IsContainer container.now × IsPackage «package».now × IsName flag.now)
+        (record { container = container.now; «package» = «package».now; flag = flag.now })) }
 {
     let Some(container) = ContainerName::parse(alloc, container)? else {
         return Ok(None);
@@ -217,6 +219,5 @@ fn read_value(word: &str) -> Option<bool>
 fn is_directory(path: &str) -> bool
     ensures { IsTrue result ↔ IsDirectory path.now }
 {
-    let bytes = path.as_bytes();
-    !bytes.is_empty() && bytes.len() <= 1024 && bytes.iter().all(|byte| *byte > b' ')
+    is_path(path) && !path.as_bytes().contains(&b' ')
 }

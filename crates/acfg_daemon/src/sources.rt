@@ -5,7 +5,7 @@ ghost use Rattle.sha2.specs.Sha256.{sha256};
 ghost use Rattle.std.specs.FinMap.{len};
 ghost use Rattle.acfg_base.specs.Names.{IsName, IsPackage};
 ghost use Rattle.acfg_base.specs.Release.{release_of};
-ghost use Rattle.acfg_device.specs.Panel.{Rose};
+ghost use Rattle.acfg_device.specs.Only.{OnlyReads};
 ghost use Rattle.acfg_model.specs.Step.{Fits, IsLoadedFor};
 ghost use Rattle.acfg_text.specs.Plain.{Reads};
 ghost use Rattle.acfg_daemon.specs.Sources.{BytesLoad, FileLoads, Loads, source_entry, source_entries, source_path, AreDeclared};
@@ -26,10 +26,7 @@ pub fn load<P: Panel>(
 ) -> Result<Option<Loaded>, DaemonFault>
     ensures told { IsTrue P.tells → IfOk result (Loads (P.files panel.old) request.now) }
     ensures fits { IfOk result (IsLoadedFor request.now) }
-    ensures files { P.files panel.new ≡ P.files panel.old }
-    ensures said { P.said panel.new ≡ P.said panel.old }
-    ensures count { P.faults panel.old ≤ P.faults panel.new }
-    ensures failed { result ≡ Err DaemonFault.Device → Rose (P.faults panel.old) (P.faults panel.new) }
+    ensures reads { OnlyReads P.Panel panel.old panel.new (result ≡ Err DaemonFault.Device) }
 {
     match request {
         Request::Update { container, dir } => {
@@ -48,10 +45,7 @@ fn load_directory<P: Panel>(
 ) -> Result<Loaded, DaemonFault>
     ensures told { IsTrue P.tells → IfOk result (FileLoads container.now (P.files panel.old (source_path dir.now))) }
     ensures fits { IfOk result Fits }
-    ensures files { P.files panel.new ≡ P.files panel.old }
-    ensures said { P.said panel.new ≡ P.said panel.old }
-    ensures count { P.faults panel.old ≤ P.faults panel.new }
-    ensures failed { result ≡ Err DaemonFault.Device → Rose (P.faults panel.old) (P.faults panel.new) }
+    ensures reads { OnlyReads P.Panel panel.old panel.new (result ≡ Err DaemonFault.Device) }
 {
     let path = path_in(alloc, dir)?;
     match panel.read(alloc, path.as_str())? {

@@ -1,11 +1,14 @@
--- What a cut may leave after each call, by what it might have left before.
+-- What a cut may leave after each call, by what it might have left before. Use these where a function's clause
+-- has a shape of its own, so that the steps of `Carried` don't serve: what a cut leaves right after a rename is
+--     rename_leaves disk from to files said apart leaves
+-- the names with the rename, or a cut of the disk before it.
 use Rattle.std.proofs.Common.{◌≡◌, ◌≢◌, ◌⊎◌, inl, inr, ℕ, List, [], ◌∷◌, Option, Some, None, is_some, IfSome, refl, sym, ◌∙◌, ap, subst, cond}
 use Rattle.std.specs.Map.{update}
 use Rattle.std.specs.Option.{option_map}
 use Rattle.std.specs.Str.{bytes_eq}
 use Rattle.acfg_device.specs.Calls.{after_write, after_write_at, after_sync, after_rename, after_remove, after_sync_names, without, new_file, overwritten, synced}
 use Rattle.acfg_device.specs.Disk.{Within, File, Names, Change, Made, Moved, Disk, told, undone, MayHold, MayStand, KeepsNames, KeepsSome, MayLeave, IsSynced, IsSettled}
-use Rattle.acfg_device.specs.Left.{SameBut, LeftBut, KeptBut, NotMovedTo, IsLone}
+use Rattle.acfg_device.specs.Left.{SameBut, LeftBut, NotMovedTo, ChangesAlone}
 use Rattle.acfg_device.specs.Panel.{Files}
 use Rattle.acfg_device.proofs.Cuts.{SameButOne, Tighter, own_bytes, synced_bytes, keeps_all, keeps_tighter, keeps_names_but, keeps_some_but, settled_leaves}
 use Rattle.acfg_device.proofs.Naming.{same_name, functions, update_here, update_apart, update_back, update_same}
@@ -20,11 +23,6 @@ module _ (disk : Disk) (name : List ℕ) (files : Files) (said : List ℕ) where
   but_one : (file : Option File) → SameButOne name disk.names (with_file file)
   but_one file other apart = update_apart disk.names name file other apart
 
-  one_kept : (file : Option File) → KeepsNames (with_file file) files → said ≡ disk.said → KeptBut disk (λ other. other ≡ name) files said
-  one_kept file keeps words =
-      let some = keeps_names_but name disk.names (with_file file) files (but_one file) keeps in
-      record { before = some.0; keeps = some.1; words = words; same = some.2 }
-
   one_left : (pending : List Change) (file : Option File) → pending ≡ disk.pending → NotMovedTo disk.pending name → KeepsSome pending (with_file file) files → said ≡ disk.said → LeftBut disk (λ other. other ≡ name) files said
   one_left pending file is free keeps words =
       let some = keeps_some_but name disk.pending disk.names (with_file file) files free (but_one file) (subst (λ (changes : List Change). KeepsSome changes (with_file file) files) is keeps) in
@@ -38,7 +36,7 @@ module _ (disk : Disk) (name : List ℕ) (files : Files) (said : List ℕ) where
   }
 
   -- a write changes the cuts in its own name
-  pub write_leaves : (bytes : List ℕ) → IsLone disk name → MayLeave (after_write disk name bytes) files said → LeftBut disk (λ other. other ≡ name) files said
+  pub write_leaves : (bytes : List ℕ) → ChangesAlone disk name → MayLeave (after_write disk name bytes) files said → LeftBut disk (λ other. other ≡ name) files said
   write_leaves bytes lone leaves = by_file (disk.names name) refl lone leaves.under
     where
       fresh : disk.names name ≡ None → KeepsSome (Made name ∷ disk.pending) (with_file (Some (new_file bytes))) files → LeftBut disk (λ other. other ≡ name) files said
@@ -55,18 +53,12 @@ module _ (disk : Disk) (name : List ℕ) (files : Files) (said : List ℕ) where
       by_file (Some old) is (inl none) keeps = cc
       by_file (Some old) is (inr free) keeps = one_left disk.pending (Some (new_file bytes)) refl free keeps leaves.words
 
-  pub write_keeps : (bytes : List ℕ) → KeepsNames (after_write disk name bytes).names files → said ≡ disk.said → KeptBut disk (λ other. other ≡ name) files said
-  write_keeps bytes keeps words = one_kept (Some (new_file bytes)) keeps words
-
   -- so does a write of some of its bytes
-  pub write_at_leaves : (at : ℕ) (bytes : List ℕ) → IsLone disk name → MayLeave (after_write_at disk name at bytes) files said → LeftBut disk (λ other. other ≡ name) files said
+  pub write_at_leaves : (at : ℕ) (bytes : List ℕ) → ChangesAlone disk name → MayLeave (after_write_at disk name at bytes) files said → LeftBut disk (λ other. other ≡ name) files said
   write_at_leaves at bytes (inl none) leaves =
       let same : option_map (overwritten at bytes) (disk.names name) ≡ None = ap (option_map (overwritten at bytes)) none in
       same_left (after_write_at disk name at bytes).names (update_same disk.names name (option_map (overwritten at bytes) (disk.names name)) (none ∙ sym same)) leaves.under leaves.words
   write_at_leaves at bytes (inr free) leaves = one_left disk.pending (option_map (overwritten at bytes) (disk.names name)) refl free leaves.under leaves.words
-
-  pub write_at_keeps : (at : ℕ) (bytes : List ℕ) → KeepsNames (after_write_at disk name at bytes).names files → said ≡ disk.said → KeptBut disk (λ other. other ≡ name) files said
-  write_at_keeps at bytes keeps words = one_kept (option_map (overwritten at bytes) (disk.names name)) keeps words
 
   -- a removal takes the one name, or it is undone
   pub remove_leaves : MayLeave (after_remove disk name) files said → LeftBut disk (λ other. other ≡ name) files said
@@ -80,13 +72,6 @@ module _ (disk : Disk) (name : List ℕ) (files : Files) (said : List ℕ) where
             record { before = some.0; may = record { under = keeps_all disk.pending disk.names some.0 some.1; words = gone.words }; same = some.2 }
         | inr undo ↦ same_left (update bytes_eq (with_file None) name (Some file)) (update_back disk.names name None (Some file) is) undo gone.words
       ]
-
-  pub remove_keeps : KeepsNames (after_remove disk name).names files → said ≡ disk.said → KeptBut disk (λ other. other ≡ name) files said
-  remove_keeps keeps words = by_file (disk.names name) keeps
-    where
-      by_file : (was : Option File) → KeepsNames (without disk name was).names files → KeptBut disk (λ other. other ≡ name) files said
-      by_file None kept = record { before = files; keeps = kept; words = words; same = λ other apart. refl }
-      by_file (Some file) kept = one_kept None kept words
 
   -- a sync only takes cuts away
   synced_tighter : Tighter (after_sync disk name).names disk.names
@@ -104,9 +89,6 @@ module _ (disk : Disk) (name : List ℕ) (files : Files) (said : List ℕ) where
 
   pub sync_leaves : MayLeave (after_sync disk name) files said → MayLeave disk files said
   sync_leaves leaves = record { under = keeps_tighter disk.pending (after_sync disk name).names disk.names files synced_tighter leaves.under; words = leaves.words }
-
-  pub sync_keeps : KeepsNames (after_sync disk name).names files → KeepsNames disk.names files
-  sync_keeps keeps = λ other. synced_tighter other (files other) (keeps other)
 
 -- ---- two names
 
@@ -147,15 +129,14 @@ module _ (disk : Disk) (from to : List ℕ) (files : Files) (said : List ℕ) wh
     | inr undo ↦ inr (record { under = subst (λ (names : Names). KeepsSome disk.pending names files) (moved_back apart) undo; words = leaves.words })
   ]
 
-  -- where it is kept, all other files are those of a cut that keeps all the name changes before it
-  pub rename_keeps : KeepsNames (after_rename disk from to).names files → said ≡ disk.said → KeptBut disk (Either from to) files said
+  -- where it is kept, all other files are those of a cut before it
+  pub rename_keeps : KeepsNames (after_rename disk from to).names files → said ≡ disk.said → LeftBut disk (Either from to) files said
   rename_keeps keeps words =
       let one = keeps_names_but to (update bytes_eq disk.names from None) (after_rename disk from to).names files (λ other apart. update_apart (update bytes_eq disk.names from None) to (disk.names from) other apart) keeps in
       let two = keeps_names_but from disk.names (update bytes_eq disk.names from None) one.0 (λ other apart. update_apart disk.names from None other apart) one.1 in
       record {
         before = two.0;
-        keeps = two.1;
-        words = words;
+        may = record { under = keeps_all disk.pending disk.names two.0 two.1; words = words };
         same = λ name apart. one.2 name (λ there. apart (inr there)) ∙ two.2 name (λ here. apart (inl here));
       }
 
@@ -169,10 +150,6 @@ module _ (disk : Disk) (from to : List ℕ) (files : Files) (said : List ℕ) wh
 pub sync_names_leaves : (disk : Disk) (files : Files) (said : List ℕ) → MayLeave (after_sync_names disk) files said → KeepsNames disk.names files
 sync_names_leaves disk files said leaves = leaves.under
 
--- a cut that keeps all the names is a cut
-pub kept_left : (disk : Disk) (changed : List ℕ → Type 0) (files : Files) (said : List ℕ) → KeptBut disk changed files said → LeftBut disk changed files said
-kept_left disk changed files said kept = record { before = kept.before; may = record { under = keeps_all disk.pending disk.names kept.before kept.keeps; words = kept.words }; same = kept.same }
-
 -- ---- one step behind another
 
 pub same_but_join : (first second changed : List ℕ → Type 0) (before middle after : Files) → ((name : List ℕ) → first name → changed name) → ((name : List ℕ) → second name → changed name)
@@ -185,12 +162,6 @@ pub left_join : (start disk : Disk) (first second changed : List ℕ → Type 0)
 left_join start disk first second changed in_first in_second so_far files said left =
     let was = so_far left.before said left.may in
     record { before = was.before; may = was.may; same = same_but_join first second changed was.before left.before files in_first in_second was.same left.same }
-
-pub kept_join : (start disk : Disk) (first second changed : List ℕ → Type 0) → ((name : List ℕ) → first name → changed name) → ((name : List ℕ) → second name → changed name)
-    → ((files : Files) (said : List ℕ) → KeepsNames disk.names files → said ≡ disk.said → KeptBut start first files said) → (files : Files) (said : List ℕ) → KeptBut disk second files said → KeptBut start changed files said
-kept_join start disk first second changed in_first in_second so_far files said kept =
-    let was = so_far kept.before said kept.keeps kept.words in
-    record { before = was.before; keeps = was.keeps; words = was.words; same = same_but_join first second changed was.before kept.before files in_first in_second was.same kept.same }
 
 pub left_weaker : (start : Disk) (first changed : List ℕ → Type 0) → ((name : List ℕ) → first name → changed name) → (files : Files) (said : List ℕ) → LeftBut start first files said → LeftBut start changed files said
 left_weaker start first changed in_first files said left = record { before = left.before; may = left.may; same = λ name apart. left.same name (λ was. apart (in_first name was)) }

@@ -1,12 +1,14 @@
 -- What was left since the start of a run differs from a cut at the start in some names alone. Each call on
--- these names carries that on, whether it is done or fails.
+-- these names carries that on, whether it is done or fails. Use these in a function that makes calls, one step
+-- a call; each exit is the steps so far. After a write, and a sync that failed:
+--     carry_same _ _ _ _ (carry_write _ _ _ _ (carry_start _ _) _ _ among alone wrote) unchanged
 use Rattle.std.proofs.Common.{◌≡◌, ◌≢◌, ◌⊎◌, ⊎_elim, ℕ, List, [], length, sym, subst}
 use Rattle.acfg_device.specs.Account.{Account, moment, moved_on}
 use Rattle.acfg_device.specs.Calls.{after_write, after_write_at, after_sync, after_rename, after_remove, after_sync_names}
 use Rattle.acfg_device.specs.Disk.{MayLeave}
-use Rattle.acfg_device.specs.Left.{LeavesSince, LeftBut, IsLone}
+use Rattle.acfg_device.specs.Left.{LeavesSince, LeftBut, ChangesAlone}
 use Rattle.acfg_device.specs.Panel.{Files}
-use Rattle.acfg_device.proofs.AfterCalls.{Either, kept_left, left_join, left_start, remove_leaves, rename_keeps, rename_leaves, sync_leaves, write_at_leaves, write_leaves}
+use Rattle.acfg_device.proofs.AfterCalls.{Either, left_join, left_start, remove_leaves, rename_keeps, rename_leaves, sync_leaves, write_at_leaves, write_leaves}
 use Rattle.acfg_device.proofs.Cuts.{keeps_all}
 use Rattle.acfg_device.proofs.Moments.{goes_on, left_now, started, stays}
 
@@ -30,18 +32,18 @@ module _ (changed : List ℕ → Type 0) (start : Account) where
     step names among = left_join start.now middle.now changed names changed (λ name is. is) among (now_since (LeftBut start.now changed) start middle so_far)
 
     module _ (name : List ℕ) where
-      pub carry_write : (bytes : List ℕ) → changed name → IsLone middle.now name → end ≡ moved_on middle (after_write middle.now name bytes) [] → Carries end
+      pub carry_write : (bytes : List ℕ) → changed name → ChangesAlone middle.now name → end ≡ moved_on middle (after_write middle.now name bytes) [] → Carries end
       carry_write bytes among lone is = goes_on (LeftBut start.now changed) start middle end (after_write middle.now name bytes) so_far is
           (λ files said leaves. step (λ other. other ≡ name) (λ other same. subst changed (sym same) among) files said (write_leaves middle.now name files said bytes lone leaves))
 
-      pub carry_write_err : changed name → IsLone middle.now name → (end ≡ middle) ⊎ ((other : List ℕ) × (end ≡ moved_on middle (after_write middle.now name other) [])) → Carries end
+      pub carry_write_err : changed name → ChangesAlone middle.now name → (end ≡ middle) ⊎ ((other : List ℕ) × (end ≡ moved_on middle (after_write middle.now name other) [])) → Carries end
       carry_write_err among lone was = ⊎_elim (λ same. carry_same same) (λ half. carry_write half.0 among lone half.1) was
 
-      pub carry_write_at : (at : ℕ) (bytes : List ℕ) → changed name → IsLone middle.now name → end ≡ moved_on middle (after_write_at middle.now name at bytes) [] → Carries end
+      pub carry_write_at : (at : ℕ) (bytes : List ℕ) → changed name → ChangesAlone middle.now name → end ≡ moved_on middle (after_write_at middle.now name at bytes) [] → Carries end
       carry_write_at at bytes among lone is = goes_on (LeftBut start.now changed) start middle end (after_write_at middle.now name at bytes) so_far is
           (λ files said leaves. step (λ other. other ≡ name) (λ other same. subst changed (sym same) among) files said (write_at_leaves middle.now name files said at bytes lone leaves))
 
-      pub carry_write_at_err : (at size : ℕ) → changed name → IsLone middle.now name
+      pub carry_write_at_err : (at size : ℕ) → changed name → ChangesAlone middle.now name
           → (end ≡ middle) ⊎ ((other : List ℕ) × (length other ≡ size) × (end ≡ moved_on middle (after_write_at middle.now name at other) [])) → Carries end
       carry_write_at_err at size among lone was = ⊎_elim (λ same. carry_same same) (λ half. carry_write_at at half.0 among lone half.2) was
 
@@ -53,7 +55,7 @@ module _ (changed : List ℕ → Type 0) (start : Account) where
       carry_rename to among too apart is = goes_on (LeftBut start.now changed) start middle end (after_rename middle.now name to) so_far is
           (λ files said leaves. ⊎_elim
           (λ kept. step (Either name to) (λ other either. ⊎_elim (λ same. subst changed (sym same) among) (λ same. subst changed (sym same) too) either) files said
-          (kept_left middle.now (Either name to) files said (rename_keeps middle.now name to files said kept leaves.words)))
+          (rename_keeps middle.now name to files said kept leaves.words))
           (λ undo. now_since (LeftBut start.now changed) start middle so_far files said undo)
           (rename_leaves middle.now name to files said apart leaves))
 

@@ -1,4 +1,7 @@
--- What a cut may leave of a disk: which files, as the names, the bytes and the pending name changes are.
+-- What a cut may leave of a disk: which files, as the names, the bytes and the pending name changes are. Use
+-- `settled_leaves` and `told_now` for a device's laws and for what a settled one leaves, and the rest for a
+-- lemma on a call that has none yet. Of a settled disk a cut leaves what is told:
+--     (settled_leaves disk files said settled leaves).0 : files ≡ told disk
 use Rattle.std.proofs.Common.{◌≡◌, ◌≢◌, inl, inr, ⊎_elim, ℕ, List, [], ◌∷◌, Option, Some, None, IfSome, refl, sym, ◌∙◌, ap, subst}
 use Rattle.std.proofs.lemmas.List.{ext_get_or}
 use Rattle.std.specs.Map.{update}

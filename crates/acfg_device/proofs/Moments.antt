@@ -1,4 +1,7 @@
--- How what was left since a moment goes on, call by call.
+-- How what was left since a moment goes on, call by call. Use these for a property of your own of what is left,
+-- one step a call: it holds at the start (`started`), it goes on where a cut of the next disk has it (`goes_on`,
+-- `says_on`), through a call that failed and did nothing (`stays`), and over a function that was called (`joined`).
+--     goes_on P start middle end disk so_far wrote (λ files said leaves. ..)
 use Rattle.std.proofs.Common.{◌≡◌, ◌⊎◌, inl, inr, ⊎_elim, ℕ, ◌≤◌, List, [], ◌∷◌, ◌++◌, length, refl, sym, ◌∙◌, ap, subst, arith, append_assoc, length-append}
 use Rattle.std.proofs.lemmas.List.{append-nil}
 use Rattle.acfg_device.specs.Account.{Account, Moment, moment, IsLater, LeftAmong, LeftSince, MightLeave, moved_on}

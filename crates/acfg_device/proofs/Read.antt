@@ -1,4 +1,6 @@
--- What is read after each call, by what was read before.
+-- What is read after each call, by what was read before. Use these where the disk is known as a whole, as after
+-- a `Wrote`; `Naming` serves where a call's clauses on files are enough.
+--     told_write disk name bytes : told (after_write disk name bytes) ≡ update bytes_eq (told disk) name (Some bytes)
 use Rattle.std.proofs.Common.{◌≡◌, inl, inr, ℕ, List, Option, Some, None, refl, sym, ◌∙◌, ap}
 use Rattle.std.specs.Map.{update}
 use Rattle.std.specs.Option.{option_map}

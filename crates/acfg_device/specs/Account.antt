@@ -36,7 +36,11 @@ LeftSince account since files said = MayLeave account.now files said ⊎ LeftAmo
 
 -- The disk is another, and what it was is a moment that has passed, in which these bytes were being said.
 abbrev pub moved_on : Account → Disk → List ℕ → Account
-moved_on account disk saying = record { now = disk; past = record { disk = account.now; saying = saying } ∷ account.past }
+moved_on account disk saying = record {
+  now = disk;
+  past
+      = record { disk = account.now; saying = saying } ∷ account.past;
+}
 
 -- a later account of the same device: its moments are those of the earlier one, and perhaps more
 pub record IsLater (earlier later : Account) : Type 0 where

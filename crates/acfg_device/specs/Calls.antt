@@ -1,5 +1,6 @@
 -- What each call makes of a disk.
-use Rattle.std.specs.Prelude.{ℕ, ◌+◌, ◌++◌, List, [], ◌∷◌, length, take, drop, Option, Some, None, is_some, if◌then◌else◌}
+use Rattle.std.specs.Prelude.{ℕ, ◌+◌, ◌++◌, List, [], ◌∷◌, length, take, drop, Option, Some, None, is_some}
+use Rattle.std.specs.Prelude.{if◌then◌else◌}
 use Rattle.std.specs.Map.{update}
 use Rattle.std.specs.Option.{option_map}
 use Rattle.std.specs.Str.{bytes_eq}
@@ -20,7 +21,11 @@ new_file bytes = record { bytes = bytes; loose = Replaced }
 
 -- a file with these bytes at this place
 abbrev pub overwritten : ℕ → List ℕ → File → File
-overwritten at bytes file = record { bytes = spliced file.bytes at bytes; loose = loosened file.loose at (length bytes) }
+overwritten at bytes file = record {
+  bytes = spliced file.bytes at bytes;
+  loose
+      = loosened file.loose at (length bytes);
+}
 
 -- a file that was synced
 abbrev pub synced : File → File
@@ -55,7 +60,11 @@ after_rename disk from to = record disk {
 -- the name is gone from this file; where there is none, nothing changes
 abbrev pub without : Disk → List ℕ → Option File → Disk
 without disk name None = disk
-without disk name (Some file) = record disk { names = update bytes_eq disk.names name None; pending = Removed name file ∷ disk.pending }
+without disk name (Some file) = record disk {
+  names = update bytes_eq disk.names name None;
+  pending
+      = Removed name file ∷ disk.pending;
+}
 
 abbrev pub after_remove : Disk → List ℕ → Disk
 after_remove disk name = without disk name (disk.names name)

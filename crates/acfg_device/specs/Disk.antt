@@ -1,6 +1,7 @@
 -- The disk as a power cut sees it: names that name files, bytes that are not synced yet, name changes that
 -- are pending, and the words said. What a cut leaves of it.
-use Rattle.std.specs.Prelude.{◌≡◌, ◌⊎◌, ◌+◌, ◌&&◌, ⊤, ℕ, Bool, false, List, [], ◌∷◌, length, slice_index, Option, Some, None, IfSome, IsSomeAnd, nat_le, nat_lt}
+use Rattle.std.specs.Prelude.{◌≡◌, ◌⊎◌, ◌+◌, ◌&&◌, ⊤, ℕ, Bool, false, List, [], ◌∷◌, length, slice_index, Option}
+use Rattle.std.specs.Prelude.{Some, None, IfSome, IsSomeAnd, nat_le, nat_lt}
 use Rattle.std.specs.List.{list_any}
 use Rattle.std.specs.Map.{update}
 use Rattle.std.specs.Option.{option_map}

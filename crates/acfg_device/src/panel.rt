@@ -1,10 +1,10 @@
 //! What is read and said.
 
-ghost use Rattle.std.specs.Prelude.{◌≡◌, ◌⊎◌, ℕ, ◌≤◌, ◌++◌, Bool, List, [], IsTrue, IfOk, OnOk, OnErr};
+ghost use Rattle.std.specs.Prelude.{◌≡◌, ℕ, ◌≤◌, ◌++◌, Bool, List, IsTrue, IfOk, OnOk, OnErr};
 ghost use Rattle.std.specs.Option.{option_map};
-ghost use Rattle.acfg_device.specs.Account.{Account, moved_on};
-ghost use Rattle.acfg_device.specs.Calls.{after_say};
+ghost use Rattle.acfg_device.specs.Account.{Account};
 ghost use Rattle.acfg_device.specs.Disk.{IsSettled, MayLeave, told};
+ghost use Rattle.acfg_device.specs.Outcomes.{MayHaveSaid, Said};
 ghost use Rattle.acfg_device.specs.Panel.{Files, Rose, SaysPart};
 
 use std::alloc::{AllocError, AllocFailed, Global};
@@ -61,7 +61,8 @@ pub trait Panel {
 
     /// The bytes of the file with this name, and nothing exactly where there is none. It changes nothing.
     fn read(&mut self, alloc: Global, name: &str) -> Result<Option<Vec<u8>>, ReadFault>
-        ensures found { IsTrue tells → IfOk result (λ found. option_map (λ bytes. bytes.items) found ≡ files self.old name.now) }
+        ensures found { IsTrue tells → IfOk result (λ found. option_map (λ bytes. bytes.items) found
+            ≡ files self.old name.now) }
         ensures files { files self.new ≡ files self.old }
         ensures said { said self.new ≡ said self.old }
         ensures account { account self.new ≡ account self.old }
@@ -72,11 +73,12 @@ pub trait Panel {
     fn say(&mut self, bytes: &[u8]) -> Result<(), Failed>
         ensures ok { IsTrue tells → OnOk result (said self.new ≡ said self.old ++ bytes.now) }
         ensures err { IsTrue tells → OnErr result (SaysPart (said self.old) (said self.new) bytes.now) }
-        ensures account_ok { IsTrue tells → OnOk result (account self.new
-            ≡ moved_on (account self.old) (after_say (account self.old).now bytes.now) bytes.now) }
-        ensures account_err { IsTrue tells → OnErr result ((account self.new ≡ account self.old) ⊎ ((part rest : List ℕ) × (bytes.now ≡ part ++ rest)
-            × (account self.new ≡ moved_on (account self.old) (after_say (account self.old).now part) part))) }
+        ensures account_ok { IsTrue tells → OnOk result (Said (account self.old) (account self.new) bytes.now) }
+        ensures account_err { IsTrue tells → OnErr result
+            (MayHaveSaid (account self.old) (account self.new) bytes.now) }
         ensures files { files self.new ≡ files self.old }
+        ensures names { (account self.new).now.names ≡ (account self.old).now.names }
+        ensures pending { (account self.new).now.pending ≡ (account self.old).now.pending }
         ensures count { faults self.old ≤ faults self.new }
         ensures failed { OnErr result (Rose (faults self.old) (faults self.new)) };
 

@@ -8,7 +8,7 @@ use Rattle.acfg_device.proofs.Cuts.{own_bytes}
 use Rattle.acfg_device.proofs.Naming.{functions}
 use Rattle.acfg_memdev.proofs.Logs.{after_all-append}
 use Rattle.acfg_memdev.specs.Cut.{IsCut, cut_files, filled, filled_from, filled_with, kept}
-use Rattle.acfg_memdev.specs.History.{History, Step, account_of, after_all, carried, disk_after, done, files_of, first, given, said_of, saying, settled_file, unused, until}
+use Rattle.acfg_memdev.specs.History.{History, Call, account_of, after_all, carried, disk_after, done, files_of, first, given, said_of, saying, settled_file, unused, until}
 
 -- ---- one file
 
@@ -61,7 +61,7 @@ cut_allowed disk count fill = record { under = keeps_cut fill count disk.pending
 
 -- ---- some moment
 
-left_too : (log : List (ℕ × Step)) (account : Account) (files : Files) (said : List ℕ) → LeftSince account 0 files said → LeftSince (after_all log account) 0 files said
+left_too : (log : List (ℕ × Call)) (account : Account) (files : Files) (said : List ℕ) → LeftSince account 0 files said → LeftSince (after_all log account) 0 files said
 left_too [] account files said left = left
 left_too (entry ∷ log) account files said left = left_too log (moved_on account (done entry.1 account.now) (saying entry.1)) files said
     (⊎_elim (λ now. inr (inl (omega arith, record { under = now.under; words = ([], saying entry.1, refl, now.words ∙ sym (nothing account.now.said)) }))) (λ past. inr (inr past)) left)
@@ -70,21 +70,21 @@ left_too (entry ∷ log) account files said left = left_too log (moved_on accoun
     nothing [] = refl
     nothing (byte ∷ said) = ap (λ (rest : List ℕ). byte ∷ rest) (nothing said)
 
-after_carried : (log : List (ℕ × Step)) (account : Account) → (after_all log account).now ≡ carried log account.now
+after_carried : (log : List (ℕ × Call)) (account : Account) → (after_all log account).now ≡ carried log account.now
 after_carried [] account = refl
 after_carried (entry ∷ log) account = after_carried log (moved_on account (done entry.1 account.now) (saying entry.1))
 
 -- the calls from this number on
-abbrev rest : ℕ → List (ℕ × Step) → List (ℕ × Step)
+abbrev rest : ℕ → List (ℕ × Call) → List (ℕ × Call)
 rest calls [] = []
 rest calls (entry ∷ log) = cond (nat_lt entry.0 calls) (rest calls log) (entry ∷ log)
 
-until_split : (calls : ℕ) (log : List (ℕ × Step)) → log ≡ until calls log ++ rest calls log
+until_split : (calls : ℕ) (log : List (ℕ × Call)) → log ≡ until calls log ++ rest calls log
 until_split calls [] = refl
 until_split calls (entry ∷ log) = by_test (nat_lt entry.0 calls) (until_split calls log)
   where
     by_test : (low : Bool) → log ≡ until calls log ++ rest calls log → (entry ∷ log) ≡ cond low (entry ∷ until calls log) [] ++ cond low (rest calls log) (entry ∷ log)
-    by_test true later = ap (λ (list : List (ℕ × Step)). entry ∷ list) later
+    by_test true later = ap (λ (list : List (ℕ × Call)). entry ∷ list) later
     by_test false later = refl
 
 -- ---- the device that a cut gives
@@ -135,4 +135,4 @@ module _ {E : Type 0} (result : Result History E) (device : History) (calls coun
       (inl (subst (λ (d : Disk). MayLeave d (files_of left) (said_of left)) (sym (after_carried (until calls device.log) (first device))) (allowed left is))))) made
     where
       split : account_of device ≡ after_all (rest calls device.log) (after_all (until calls device.log) (first device))
-      split = ap (λ (log : List (ℕ × Step)). after_all log (first device)) (until_split calls device.log) ∙ after_all-append (until calls device.log) (rest calls device.log) (first device)
+      split = ap (λ (log : List (ℕ × Call)). after_all log (first device)) (until_split calls device.log) ∙ after_all-append (until calls device.log) (rest calls device.log) (first device)

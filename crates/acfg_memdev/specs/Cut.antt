@@ -9,12 +9,14 @@ use Rattle.acfg_memdev.specs.History.{History, disk_after, files_of, said_of}
 -- the names where the first so many of the pending name changes are kept; the newest stands first
 abbrev pub kept : ℕ → List Change → Names → Names
 kept count [] names = names
-kept count (newest ∷ older) names = if nat_lt (length older) count then names else kept count older (undone newest names)
+kept count (newest ∷ older) names = if nat_lt (length older) count then names else kept count older
+    (undone newest names)
 
 -- the bytes from this place on, with the fill in the ranges
 abbrev pub filled_from : List (ℕ × ℕ) → ℕ → ℕ → List ℕ → List ℕ
 filled_from ranges fill place [] = []
-filled_from ranges fill place (byte ∷ bytes) = (if in_ranges ranges place then fill else byte) ∷ filled_from ranges fill (place + 1) bytes
+filled_from ranges fill place (byte ∷ bytes)
+    = (if in_ranges ranges place then fill else byte) ∷ filled_from ranges fill (place + 1) bytes
 
 -- the bytes with the fill in the place of each that is not synced
 abbrev pub filled_with : Loose → ℕ → List ℕ → List ℕ

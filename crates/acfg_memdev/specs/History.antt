@@ -1,26 +1,28 @@
 -- The life of a device in memory, and the account that it makes.
-use Rattle.std.specs.Prelude.{◌≡◌, ◌≢◌, ◌⊎◌, ◌+◌, ◌-◌, ◌^◌, ◌≤◌, ◌++◌, ◌==◌, ⊤, ℕ, true, false, Result, MatchResult, zero, suc, List, [], ◌∷◌, Bool, IsSomeAnd, if◌then◌else◌, length, min, nat_lt}
+use Rattle.std.specs.Prelude.{◌≡◌, ◌≢◌, ◌⊎◌, ◌+◌, ◌-◌, ◌^◌, ◌≤◌, ◌++◌, ◌==◌, ⊤, ℕ, true, false, Result, MatchResult}
+use Rattle.std.specs.Prelude.{zero, suc, List, [], ◌∷◌, Bool, IsSomeAnd, if◌then◌else◌, length, min, nat_lt}
 use Rattle.std.specs.List.{list_any}
 use Rattle.std.specs.Map.{lookup}
 use Rattle.std.specs.Option.{option_map}
 use Rattle.std.specs.Str.{bytes_eq}
 use Rattle.acfg_device.specs.Account.{Account, moved_on}
-use Rattle.acfg_device.specs.Calls.{after_write, after_write_at, after_sync, after_rename, after_remove, after_sync_names, after_say}
+use Rattle.acfg_device.specs.Calls.{after_write, after_write_at, after_sync, after_rename, after_remove}
+use Rattle.acfg_device.specs.Calls.{after_sync_names, after_say}
 use Rattle.acfg_device.specs.Disk.{Disk, File, Within, told}
 use Rattle.acfg_device.specs.Panel.{Files, last_count}
 
 -- a call, with what it was given
-pub data Step : Type 0 where
-  Write : List ℕ → List ℕ → Step
-  WriteAt : List ℕ → ℕ → List ℕ → Step
-  Sync : List ℕ → Step
-  Rename : List ℕ → List ℕ → Step
-  Remove : List ℕ → Step
-  SyncNames : Step
-  Say : List ℕ → Step
+pub data Call : Type 0 where
+  Write : List ℕ → List ℕ → Call
+  WriteAt : List ℕ → ℕ → List ℕ → Call
+  Sync : List ℕ → Call
+  Rename : List ℕ → List ℕ → Call
+  Remove : List ℕ → Call
+  SyncNames : Call
+  Say : List ℕ → Call
 
 -- what the call makes of a disk
-abbrev pub done : Step → Disk → Disk
+abbrev pub done : Call → Disk → Disk
 done (Write name bytes) disk = after_write disk name bytes
 done (WriteAt name at bytes) disk = after_write_at disk name at bytes
 done (Sync name) disk = after_sync disk name
@@ -30,7 +32,7 @@ done SyncNames disk = after_sync_names disk
 done (Say bytes) disk = after_say disk bytes
 
 -- the bytes that are said in it
-abbrev pub saying : Step → List ℕ
+abbrev pub saying : Call → List ℕ
 saying (Write name bytes) = []
 saying (WriteAt name at bytes) = []
 saying (Sync name) = []
@@ -40,7 +42,7 @@ saying SyncNames = []
 saying (Say bytes) = bytes
 
 -- what a call asks of the disk
-abbrev pub CanDo : Step → Disk → Type 0
+abbrev pub CanDo : Call → Disk → Type 0
 CanDo (Write name bytes) disk = ⊤
 CanDo (WriteAt name at bytes) disk = IsSomeAnd (disk.names name) (λ file. at + length bytes ≤ length file.bytes)
 CanDo (Sync name) disk = ⊤
@@ -66,13 +68,13 @@ settled_disk files words = record { names = λ name. option_map settled_file (fi
 pub record History : Type 0 where
   pub files : List (List ℕ × List ℕ)
   pub words : List ℕ
-  pub log : List (ℕ × Step)
+  pub log : List (ℕ × Call)
   pub calls : ℕ
   pub fails : List ℕ
   pub starved : ℕ
 
 -- the account after these calls
-abbrev pub after_all : List (ℕ × Step) → Account → Account
+abbrev pub after_all : List (ℕ × Call) → Account → Account
 after_all [] account = account
 after_all (entry ∷ log) account = after_all log (moved_on account (done entry.1 account.now) (saying entry.1))
 
@@ -117,8 +119,8 @@ abbrev pub called : History → History
 called device = record device { calls = min (device.calls + 1) last_call }
 
 -- a call of this number was carried out
-abbrev pub logged : History → ℕ → Step → History
-logged device number step = record device { log = device.log ++ (number, step) ∷ [] }
+abbrev pub logged : History → ℕ → Call → History
+logged device number call = record device { log = device.log ++ (number, call) ∷ [] }
 
 -- a call found no memory
 abbrev pub starved_once : History → History
@@ -126,24 +128,26 @@ starved_once device = record device { starved = min (device.starved + 1) last_co
 
 -- A call failed: its number is listed, and nothing else changed, or it found no memory.
 abbrev pub HasFailed : History → History → Type 0
-HasFailed old new = ((is_listed old.fails old.calls ≡ true) × (new ≡ called old)) ⊎ ((is_listed old.fails old.calls ≡ false) × (new ≡ starved_once (called old)))
+HasFailed old new = ((is_listed old.fails old.calls ≡ true) × (new ≡ called old))
+    ⊎ ((is_listed old.fails old.calls ≡ false) × (new ≡ starved_once (called old)))
 
 -- A call was carried out, and its number isn't listed, or it failed.
-abbrev pub IsCall : {T E : Type 0} → Result T E → History → History → Step → Type 0
-IsCall result old new step = MatchResult result (λ _. (is_listed old.fails old.calls ≡ false) × (new ≡ logged (called old) old.calls step)) (λ _. HasFailed old new)
+abbrev pub IsCall : {T E : Type 0} → Result T E → History → History → Call → Type 0
+IsCall result old new call = MatchResult result (λ _. (is_listed old.fails old.calls ≡ false)
+    × (new ≡ logged (called old) old.calls call)) (λ _. HasFailed old new)
 
 -- the calls below this number
-abbrev pub until : ℕ → List (ℕ × Step) → List (ℕ × Step)
+abbrev pub until : ℕ → List (ℕ × Call) → List (ℕ × Call)
 until calls [] = []
 until calls (entry ∷ log) = if nat_lt entry.0 calls then entry ∷ until calls log else []
 
 -- the disk after these calls
-abbrev pub carried : List (ℕ × Step) → Disk → Disk
+abbrev pub carried : List (ℕ × Call) → Disk → Disk
 carried [] disk = disk
 carried (entry ∷ log) disk = carried log (done entry.1 disk)
 
 -- each of these calls can be done when it is its turn
-abbrev pub CanDoAll : List (ℕ × Step) → Disk → Type 0
+abbrev pub CanDoAll : List (ℕ × Call) → Disk → Type 0
 CanDoAll [] disk = ⊤
 CanDoAll (entry ∷ log) disk = CanDo entry.1 disk × CanDoAll log (done entry.1 disk)
 

@@ -1,15 +1,20 @@
 //! The calls of the traits.
 
-ghost use Rattle.std.specs.Prelude.{◌≡◌, ◌≢◌, ◌⊎◌, ◌+◌, ◌≤◌, ◌++◌, ℕ, ◌↔◌, List, [], Some, None, true, refl, IsTrue, IsSome, IsSomeAnd, IfOk, OnOk, OnErr, length};
+ghost use Rattle.std.specs.Prelude.{◌≡◌, ◌≢◌, ◌⊎◌, ◌+◌, ◌≤◌, ◌++◌, ◌↔◌, Some, None, true, refl, IsTrue, IsErr};
+ghost use Rattle.std.specs.Prelude.{IsSome, IsSomeAnd, IfOk, OnOk, OnErr, length};
 ghost use Rattle.std.specs.Option.{option_map};
 ghost use Rattle.acfg_device.proofs.Cuts.{settled_leaves, told_now};
-ghost use Rattle.acfg_device.specs.Account.{moved_on};
-ghost use Rattle.acfg_device.specs.Calls.{after_write, after_write_at, after_sync, after_rename, after_remove, after_sync_names, after_say, spliced};
+ghost use Rattle.acfg_device.specs.Calls.{spliced};
+ghost use Rattle.acfg_device.specs.Only.{OnlyChanges, OnlySyncs};
+ghost use Rattle.acfg_device.specs.Outcomes.{MayHaveRemoved, MayHaveRenamed, MayHaveSaid, MayHaveWritten};
+ghost use Rattle.acfg_device.specs.Outcomes.{MayHaveWrittenAt, Removed, Renamed, Said, Synced, SyncedNames, Wrote};
+ghost use Rattle.acfg_device.specs.Outcomes.{WroteAt};
 ghost use Rattle.acfg_device.specs.Panel.{Rose, SaysPart};
-ghost use Rattle.acfg_memdev.specs.History.{Write, WriteAt, Sync, Rename, Remove, SyncNames, Say, IsCall, account_of, called, faults_of, files_of, is_listed, said_of};
+ghost use Rattle.acfg_memdev.specs.History.{Write, WriteAt, Sync, Rename, Remove, SyncNames, Say, IsCall, account_of};
+ghost use Rattle.acfg_memdev.specs.History.{called, faults_of, files_of, is_listed, said_of};
 
+use crate::call::Call;
 use crate::device::MemDevice;
-use crate::step::Call;
 use acfg_device::{Device, Failed, OutOfMemory, Panel, ReadFault};
 use std::alloc::Global;
 
@@ -38,7 +43,8 @@ impl Panel for MemDevice {
         ensures call { self.new ≡ called self.old }
         ensures listed { IsTrue (is_listed self.old.fails self.old.calls) ↔ (result ≡ Err ReadFault.Failed) }
 
-        ensures found { IsTrue true → IfOk result (λ found. option_map (λ bytes. bytes.items) found ≡ files_of self.old name.now) }
+        ensures found { IsTrue true → IfOk result (λ found. option_map (λ bytes. bytes.items) found
+            ≡ files_of self.old name.now) }
         ensures files { files_of self.new ≡ files_of self.old }
         ensures said { said_of self.new ≡ said_of self.old }
         ensures account { account_of self.new ≡ account_of self.old }
@@ -59,11 +65,12 @@ impl Panel for MemDevice {
 
         ensures ok { IsTrue true → OnOk result (said_of self.new ≡ said_of self.old ++ bytes.now) }
         ensures err { IsTrue true → OnErr result (SaysPart (said_of self.old) (said_of self.new) bytes.now) }
-        ensures account_ok { IsTrue true → OnOk result (account_of self.new
-            ≡ moved_on (account_of self.old) (after_say (account_of self.old).now bytes.now) bytes.now) }
-        ensures account_err { IsTrue true → OnErr result ((account_of self.new ≡ account_of self.old) ⊎ ((part rest : List ℕ) × (bytes.now ≡ part ++ rest)
-            × (account_of self.new ≡ moved_on (account_of self.old) (after_say (account_of self.old).now part) part))) }
+        ensures account_ok { IsTrue true → OnOk result (Said (account_of self.old) (account_of self.new) bytes.now) }
+        ensures account_err { IsTrue true → OnErr result
+            (MayHaveSaid (account_of self.old) (account_of self.new) bytes.now) }
         ensures files { files_of self.new ≡ files_of self.old }
+        ensures names { (account_of self.new).now.names ≡ (account_of self.old).now.names }
+        ensures pending { (account_of self.new).now.pending ≡ (account_of self.old).now.pending }
         ensures count { faults_of self.old ≤ faults_of self.new }
         ensures failed { OnErr result (Rose (faults_of self.old) (faults_of self.new)) }
     {
@@ -78,13 +85,11 @@ impl Device for MemDevice {
     fn write(&mut self, name: &str, bytes: &[u8]) -> Result<(), Failed>
         ensures call { IsCall result self.old self.new (Write name.now bytes.now) }
 
-        ensures ok { IsTrue true → OnOk result (account_of self.new ≡ moved_on (account_of self.old) (after_write (account_of self.old).now name.now bytes.now) []) }
-        ensures err { IsTrue true → OnErr result ((account_of self.new ≡ account_of self.old) ⊎ ((other : List ℕ) × (account_of self.new ≡ moved_on (account_of self.old) (after_write (account_of self.old).now name.now other) []))) }
+        ensures ok { IsTrue true → OnOk result (Wrote (account_of self.old) (account_of self.new) name.now bytes.now) }
+        ensures err { IsTrue true → OnErr result (MayHaveWritten (account_of self.old) (account_of self.new) name.now) }
         ensures file { IsTrue true → OnOk result (files_of self.new name.now ≡ Some bytes.now) }
-        ensures others { (other : List ℕ) → other ≢ name.now → files_of self.new other ≡ files_of self.old other }
-        ensures said { said_of self.new ≡ said_of self.old }
-        ensures count { faults_of self.old ≤ faults_of self.new }
-        ensures failed { OnErr result (Rose (faults_of self.old) (faults_of self.new)) }
+        ensures changes { OnlyChanges ⟦<MemDevice as Panel>⟧ (λ other. other ≡ name.now) self.old self.new
+            (IsErr result) }
     {
         let call = Call::write(self.alloc(), name, bytes);
         self.call(call)?;
@@ -95,13 +100,14 @@ impl Device for MemDevice {
         requires { IsTrue true → IsSomeAnd (files_of self.old name.now) (λ held. at + length bytes.now ≤ length held) }
         ensures call { IsCall result self.old self.new (WriteAt name.now at bytes.now) }
 
-        ensures ok { IsTrue true → OnOk result (account_of self.new ≡ moved_on (account_of self.old) (after_write_at (account_of self.old).now name.now at bytes.now) []) }
-        ensures err { IsTrue true → OnErr result ((account_of self.new ≡ account_of self.old) ⊎ ((other : List ℕ) × (length other ≡ length bytes.now) × (account_of self.new ≡ moved_on (account_of self.old) (after_write_at (account_of self.old).now name.now at other) []))) }
-        ensures file { IsTrue true → OnOk result (files_of self.new name.now ≡ option_map (λ held. spliced held at bytes.now) (files_of self.old name.now)) }
-        ensures others { (other : List ℕ) → other ≢ name.now → files_of self.new other ≡ files_of self.old other }
-        ensures said { said_of self.new ≡ said_of self.old }
-        ensures count { faults_of self.old ≤ faults_of self.new }
-        ensures failed { OnErr result (Rose (faults_of self.old) (faults_of self.new)) }
+        ensures ok { IsTrue true → OnOk result (WroteAt (account_of self.old)
+            (account_of self.new) name.now at bytes.now) }
+        ensures err { IsTrue true → OnErr result (MayHaveWrittenAt (account_of self.old)
+            (account_of self.new) name.now at (length bytes.now)) }
+        ensures file { IsTrue true → OnOk result (files_of self.new name.now
+            ≡ option_map (λ held. spliced held at bytes.now) (files_of self.old name.now)) }
+        ensures changes { OnlyChanges ⟦<MemDevice as Panel>⟧ (λ other. other ≡ name.now) self.old self.new
+            (IsErr result) }
     {
         let call = Call::write_at(self.alloc(), name, at as usize, bytes);
         self.call(call)?;
@@ -112,12 +118,9 @@ impl Device for MemDevice {
         requires { IsTrue true → IsSome (files_of self.old name.now) }
         ensures call { IsCall result self.old self.new (Sync name.now) }
 
-        ensures ok { IsTrue true → OnOk result (account_of self.new ≡ moved_on (account_of self.old) (after_sync (account_of self.old).now name.now) []) }
+        ensures ok { IsTrue true → OnOk result (Synced (account_of self.old) (account_of self.new) name.now) }
         ensures err { IsTrue true → OnErr result (account_of self.new ≡ account_of self.old) }
-        ensures files { files_of self.new ≡ files_of self.old }
-        ensures said { said_of self.new ≡ said_of self.old }
-        ensures count { faults_of self.old ≤ faults_of self.new }
-        ensures failed { OnErr result (Rose (faults_of self.old) (faults_of self.new)) }
+        ensures syncs { OnlySyncs ⟦<MemDevice as Panel>⟧ self.old self.new (IsErr result) }
     {
         let call = Call::sync(self.alloc(), name);
         self.call(call)?;
@@ -129,14 +132,13 @@ impl Device for MemDevice {
         requires apart { IsTrue true → from.now ≢ to.now }
         ensures call { IsCall result self.old self.new (Rename from.now to.now) }
 
-        ensures ok { IsTrue true → OnOk result (account_of self.new ≡ moved_on (account_of self.old) (after_rename (account_of self.old).now from.now to.now) []) }
-        ensures err { IsTrue true → OnErr result ((account_of self.new ≡ account_of self.old) ⊎ (account_of self.new ≡ moved_on (account_of self.old) (after_rename (account_of self.old).now from.now to.now) [])) }
+        ensures ok { IsTrue true → OnOk result (Renamed (account_of self.old) (account_of self.new) from.now to.now) }
+        ensures err { IsTrue true → OnErr result (MayHaveRenamed (account_of self.old)
+            (account_of self.new) from.now to.now) }
         ensures file { IsTrue true → OnOk result (files_of self.new to.now ≡ files_of self.old from.now) }
         ensures gone { IsTrue true → OnOk result (files_of self.new from.now ≡ None) }
-        ensures others { (other : List ℕ) → other ≢ from.now → other ≢ to.now → files_of self.new other ≡ files_of self.old other }
-        ensures said { said_of self.new ≡ said_of self.old }
-        ensures count { faults_of self.old ≤ faults_of self.new }
-        ensures failed { OnErr result (Rose (faults_of self.old) (faults_of self.new)) }
+        ensures changes { OnlyChanges ⟦<MemDevice as Panel>⟧
+            (λ other. (other ≡ from.now) ⊎ (other ≡ to.now)) self.old self.new (IsErr result) }
     {
         let call = Call::rename(self.alloc(), from, to);
         self.call(call)?;
@@ -146,13 +148,11 @@ impl Device for MemDevice {
     fn remove(&mut self, name: &str) -> Result<(), Failed>
         ensures call { IsCall result self.old self.new (Remove name.now) }
 
-        ensures ok { IsTrue true → OnOk result (account_of self.new ≡ moved_on (account_of self.old) (after_remove (account_of self.old).now name.now) []) }
-        ensures err { IsTrue true → OnErr result ((account_of self.new ≡ account_of self.old) ⊎ (account_of self.new ≡ moved_on (account_of self.old) (after_remove (account_of self.old).now name.now) [])) }
+        ensures ok { IsTrue true → OnOk result (Removed (account_of self.old) (account_of self.new) name.now) }
+        ensures err { IsTrue true → OnErr result (MayHaveRemoved (account_of self.old) (account_of self.new) name.now) }
         ensures gone { IsTrue true → OnOk result (files_of self.new name.now ≡ None) }
-        ensures others { (other : List ℕ) → other ≢ name.now → files_of self.new other ≡ files_of self.old other }
-        ensures said { said_of self.new ≡ said_of self.old }
-        ensures count { faults_of self.old ≤ faults_of self.new }
-        ensures failed { OnErr result (Rose (faults_of self.old) (faults_of self.new)) }
+        ensures changes { OnlyChanges ⟦<MemDevice as Panel>⟧ (λ other. other ≡ name.now) self.old self.new
+            (IsErr result) }
     {
         let call = Call::remove(self.alloc(), name);
         self.call(call)?;
@@ -162,12 +162,9 @@ impl Device for MemDevice {
     fn sync_names(&mut self) -> Result<(), Failed>
         ensures call { IsCall result self.old self.new SyncNames }
 
-        ensures ok { IsTrue true → OnOk result (account_of self.new ≡ moved_on (account_of self.old) (after_sync_names (account_of self.old).now) []) }
+        ensures ok { IsTrue true → OnOk result (SyncedNames (account_of self.old) (account_of self.new)) }
         ensures err { IsTrue true → OnErr result (account_of self.new ≡ account_of self.old) }
-        ensures files { files_of self.new ≡ files_of self.old }
-        ensures said { said_of self.new ≡ said_of self.old }
-        ensures count { faults_of self.old ≤ faults_of self.new }
-        ensures failed { OnErr result (Rose (faults_of self.old) (faults_of self.new)) }
+        ensures syncs { OnlySyncs ⟦<MemDevice as Panel>⟧ self.old self.new (IsErr result) }
     {
         let call = Ok(Call::SyncNames);
         self.call(call)?;

@@ -25,7 +25,8 @@ fn move_back(
     to: &str,
     lost: Option<File>,
 ) -> Result<(), OutOfMemory>
-    ensures { OnOk result (names_of slots.new ≡ undone (Moved from.now to.now (option_map file_of lost)) (names_of slots.old)) }
+    ensures { OnOk result (names_of slots.new ≡ undone (Moved from.now to.now (option_map file_of lost))
+        (names_of slots.old)) }
 {
     make_slot(slots, alloc, from)?;
     make_slot(slots, alloc, to)?;
@@ -129,7 +130,8 @@ fn file_left(
     name: &str,
     fill: Option<u8>,
 ) -> Result<Option<Vec<u8>>, OutOfMemory>
-    ensures { IfOk result (λ left. option_map (λ bytes. bytes.items) left ≡ option_map (filled fill) (names_of slots.now name.now)) }
+    ensures { IfOk result (λ left. option_map (λ bytes. bytes.items) left
+        ≡ option_map (filled fill) (names_of slots.now name.now)) }
 {
     match slots.get(name) {
         Some(Some(file)) => Ok(Some(bytes_left(alloc, file, fill)?)),
@@ -144,7 +146,8 @@ fn files_left(
     slots: &Slots,
     fill: Option<u8>,
 ) -> Result<Vec<(String, Vec<u8>)>, OutOfMemory>
-    ensures { IfOk result (λ left. (name : List ℕ) → given (map entry_of left.items) name ≡ option_map (filled fill) (names_of slots.now name)) }
+    ensures { IfOk result (λ left. (name : List ℕ) → given (map entry_of left.items) name
+        ≡ option_map (filled fill) (names_of slots.now name)) }
 {
     let mut left = Vec::new(alloc);
     for name in slots.keys() {

@@ -1,17 +1,19 @@
 //! The device, and how a call is counted and carried out.
 
-ghost use Rattle.std.specs.Prelude.{◌≡◌, ◌<◌, ◌≤◌, ◌^◌, [], true, false, map, reverse, IsTrue, IsErr, IsOkAnd, IfOk, OnOk, OnErr, MatchResult};
+ghost use Rattle.std.specs.Prelude.{◌≡◌, ◌<◌, ◌≤◌, ◌^◌, [], true, false, map, min, reverse, IsTrue, IsErr, IsOkAnd};
+ghost use Rattle.std.specs.Prelude.{IfOk, OnOk, OnErr, MatchResult};
 ghost use Rattle.std.specs.Option.{option_map};
 ghost use Rattle.std.specs.Result.{ForOk};
 ghost use Rattle.acfg_device.specs.Account.{moved_on};
-ghost use Rattle.acfg_device.specs.Panel.{Rose};
-ghost use Rattle.acfg_memdev.specs.History.{CanDo, HasFailed, IsCall, account_of, called, disk_after, done, faults_of, files_of, is_listed, logged, saying, starved_once, unused};
-ghost use Rattle.acfg_memdev.specs.Kept.{entry_of, step_of};
+ghost use Rattle.acfg_device.specs.Panel.{Rose, last_count};
+ghost use Rattle.acfg_memdev.specs.History.{CanDo, HasFailed, IsCall, account_of, called, disk_after, done};
+ghost use Rattle.acfg_memdev.specs.History.{faults_of, files_of, is_listed, logged, saying, starved_once, unused};
+ghost use Rattle.acfg_memdev.specs.Kept.{entry_of, call_of};
 ghost use Rattle.acfg_memdev.specs.Slots.{disk_of};
 
+use crate::call::{Call, perform, replay};
 use crate::disk::{Disk, push_within};
 use crate::slots::{read, slots_of};
-use crate::step::{Call, perform, replay};
 use acfg_device::{Failed, OutOfMemory};
 use std::alloc::Global;
 use std::marker::Model;
@@ -88,6 +90,14 @@ impl MemDevice {
         self.disk.said.as_slice()
     }
 
+    /// How many calls of the traits were made, `read` and those that failed too. A cut after so many calls is
+    /// one now. The number stands at the last one of 64 bits.
+    pub fn calls(&self) -> u64
+        ensures { result ≡ min self.now.calls last_count }
+    {
+        u64::try_from(self.calls).unwrap_or(u64::MAX)
+    }
+
     /// How many calls other than `read` found no memory.
     pub fn starved(&self) -> u64
         ensures { result ≡ self.now.starved }
@@ -138,11 +148,11 @@ impl MemDevice {
 
     // A call: it fails where its number is listed, and else it is carried out, or finds no memory.
     pub(crate) fn call(&mut self, call: Result<Call, OutOfMemory>) -> Result<(), Failed>
-        requires { ForOk call (λ call. CanDo (step_of call) (account_of self.old).now) }
-        ensures ok { OnOk result (IsOkAnd call (λ call. IsCall result self.old self.new (step_of call))) }
+        requires { ForOk call (λ call. CanDo (call_of call) (account_of self.old).now) }
+        ensures ok { OnOk result (IsOkAnd call (λ call. IsCall result self.old self.new (call_of call))) }
         ensures err { OnErr result (HasFailed self.old self.new) }
         ensures account { OnOk result (IsOkAnd call (λ call. account_of self.new
-            ≡ moved_on (account_of self.old) (done (step_of call) (account_of self.old).now) (saying (step_of call)))) }
+            ≡ moved_on (account_of self.old) (done (call_of call) (account_of self.old).now) (saying (call_of call)))) }
         ensures same { OnErr result (account_of self.new ≡ account_of self.old) }
         ensures count { faults_of self.old ≤ faults_of self.new }
         ensures rose { OnErr result (Rose (faults_of self.old) (faults_of self.new)) }
@@ -154,8 +164,9 @@ impl MemDevice {
 
     // Carries out a call of this number, or counts that it found no memory.
     fn carry_out(&mut self, number: u128, call: Result<Call, OutOfMemory>) -> Result<(), Failed>
-        requires { ForOk call (λ call. CanDo (step_of call) (account_of self.old).now) }
-        ensures cases { MatchResult result (λ _. IsOkAnd call (λ call. self.new ≡ logged self.old number (step_of call))) (λ _. self.new ≡ starved_once self.old) }
+        requires { ForOk call (λ call. CanDo (call_of call) (account_of self.old).now) }
+        ensures cases { MatchResult result (λ _. IsOkAnd call
+            (λ call. self.new ≡ logged self.old number (call_of call))) (λ _. self.new ≡ starved_once self.old) }
         ensures count { faults_of self.old ≤ faults_of self.new }
         ensures rose { OnErr result (Rose (faults_of self.old) (faults_of self.new)) }
     {
@@ -169,8 +180,8 @@ impl MemDevice {
     }
 
     fn log_call(&mut self, number: u128, call: Call) -> Result<(), OutOfMemory>
-        requires { CanDo (step_of call) (account_of self.old).now }
-        ensures ok { OnOk result (self.new ≡ logged self.old number (step_of call)) }
+        requires { CanDo (call_of call) (account_of self.old).now }
+        ensures ok { OnOk result (self.new ≡ logged self.old number (call_of call)) }
         ensures err { OnErr result (self.new ≡ self.old) }
     {
         self.log.reserve(1)?;

@@ -2,8 +2,10 @@
 //!
 //! Each function takes its memory first and then does what can't fail, so that a refusal leaves all as it was.
 
-ghost use Rattle.std.specs.Prelude.{◌≡◌, ◌≢◌, ◌+◌, ◌≤◌, ◌<◌, ◌++◌, [], ◌∷◌, IsSomeAnd, OnOk, OnErr, length, vec_len, vec_capacity};
-ghost use Rattle.acfg_device.specs.Calls.{after_write, after_write_at, after_sync, after_rename, after_remove, after_sync_names, after_say};
+ghost use Rattle.std.specs.Prelude.{◌≡◌, ◌≢◌, ◌+◌, ◌≤◌, ◌<◌, ◌++◌, [], ◌∷◌, IsSomeAnd, OnOk, OnErr, length, vec_len};
+ghost use Rattle.std.specs.Prelude.{vec_capacity};
+ghost use Rattle.acfg_device.specs.Calls.{after_write, after_write_at, after_sync, after_rename, after_remove};
+ghost use Rattle.acfg_device.specs.Calls.{after_sync_names, after_say};
 ghost use Rattle.acfg_memdev.specs.Slots.{disk_of, names_of};
 
 use crate::file::{File, Loose, overwrite, settle};

@@ -1,13 +1,13 @@
 //! A device in memory. It tells its files and words, and gives what a cut of power may leave of them.
 #![tactic(auto)]
 
+mod call;
 mod calls;
 mod cut;
 mod device;
 mod disk;
 mod file;
 mod slots;
-mod step;
 
 pub use device::MemDevice;
 

@@ -59,7 +59,8 @@ pub fn is_there(slots: &Slots, name: &str) -> bool
 fn fill_slot(slots: &mut Slots, alloc: Global, name: &str, bytes: &[u8]) -> Result<(), OutOfMemory>
     ensures there { is_some (names_of slots.old name.now) ≡ true → names_of slots.new ≡ names_of slots.old }
     ensures absent { is_some (names_of slots.old name.now) ≡ false
-        → OnOk result (names_of slots.new ≡ update bytes_eq (names_of slots.old) name.now (Some (settled_file bytes.now))) }
+        → OnOk result (names_of slots.new ≡ update bytes_eq (names_of slots.old) name.now
+        (Some (settled_file bytes.now))) }
 {
     if is_there(slots, name) {
         return Ok(());
@@ -86,7 +87,8 @@ pub fn slots_of(alloc: Global, files: &[(String, Vec<u8>)]) -> Result<Slots, Out
 
 /// A copy of the bytes of the file that the name names, if it names one.
 pub fn read(slots: &Slots, alloc: Global, name: &str) -> Result<Option<Vec<u8>>, OutOfMemory>
-    ensures { IfOk result (λ found. option_map (λ bytes. bytes.items) found ≡ option_map (λ file. file.bytes) (names_of slots.now name.now)) }
+    ensures { IfOk result (λ found. option_map (λ bytes. bytes.items) found
+        ≡ option_map (λ file. file.bytes) (names_of slots.now name.now)) }
 {
     match slots.get(name) {
         Some(Some(file)) => Ok(Some(Vec::from_slice(alloc, file.bytes.as_slice())?)),

@@ -124,3 +124,22 @@ fn each_call_is_done_where_there_is_memory(rt: HostRuntime) -> Result<(), Fail> 
     assert_eq!(rt; left.said(), b"said".as_slice());
     Ok(())
 }
+
+// The count of calls is that of a caller's own, and a cut after each of them is had.
+#[test]
+fn thousands_of_calls_are_counted(rt: HostRuntime) -> Result<(), Fail> {
+    let alloc = rt.alloc();
+    let mut whole = device(alloc, &[])?;
+    for _ in 0..1500 {
+        whole.write("b", b"new")?;
+        whole.sync("b")?;
+    }
+    assert_eq!(rt; whole.calls(), 3000);
+    whole.remove("a")?;
+    for calls in 2998..=whole.calls() {
+        let mut left = whole.cut(alloc, calls, 1, None)?;
+        holds(&rt, alloc, &mut left, "a", Some("old"))?;
+        holds(&rt, alloc, &mut left, "b", Some("new"))?;
+    }
+    Ok(())
+}

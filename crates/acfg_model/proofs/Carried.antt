@@ -10,15 +10,15 @@ use Rattle.acfg_base.specs.Release.{Key, key_cmp, key_of, facts_of, ReleaseMap, 
 use Rattle.acfg_base.proofs.Rows.{AreInOrder-map, row_at-map, row_at-found, row_at-stands, row_at-gap, get-map_of, get-map_where}
 use Rattle.acfg_base.proofs.Keys.{key_total, key_exact, entries_of-in_order, release_of-entries_of}
 use Rattle.acfg_base.proofs.Maps.{get-map_values}
-use Rattle.acfg_model.specs.declared.tables.Row.{Row}
+use Rattle.acfg_model.specs.declared.containers.FlagState.{FlagState}
 use Rattle.acfg_model.specs.State.{BootedFlag, BootMap, IsValidContainer, is_read_write, is_writable, pick}
-use Rattle.acfg_model.specs.Boots.{booted_key, booted_flag, boot_of}
-use Rattle.acfg_model.specs.Step.{boot_map, renewed, fresh}
-use Rattle.acfg_model.specs.Tables.{row_key, release_in, server_in, local_in, container_in, booted_row, carried_row, IsLawful}
-use Rattle.acfg_model.proofs.Valid.{IsValidContainer-renewed, IsValidContainer-fresh}
+use Rattle.acfg_model.specs.Views.{booted_key, booted_flag, boot_of}
+use Rattle.acfg_model.specs.Step.{boot_map, with_release, fresh}
+use Rattle.acfg_model.specs.FlagStates.{row_key, release_in, server_in, local_in, container_in, booted_row, carried_row, IsLawful}
+use Rattle.acfg_model.proofs.Valid.{IsValidContainer-with_release, IsValidContainer-fresh}
 
-module _ (old : List Row) (order : AreInOrder key_cmp row_key old) (release : ReleaseMap) where
-  rows : List Row
+module _ (old : List FlagState) (order : AreInOrder key_cmp row_key old) (release : ReleaseMap) where
+  rows : List FlagState
   rows = map (carried_row old) (entries_of release)
 
   in_order : AreInOrder key_cmp row_key rows
@@ -38,14 +38,14 @@ module _ (old : List Row) (order : AreInOrder key_cmp row_key old) (release : Re
 
   release_carried : release_in rows ≡ release
   release_carried = same_map key_total key_exact _ _ (λ q.
-      get-map_of key_total row_key (λ r. facts_of r.entry) rows q ∙ ap (option_map (λ (r : Row). facts_of r.entry)) (row_there q) ∙ facts (entry_there q) ∙ sym (get_release q))
+      get-map_of key_total row_key (λ r. facts_of r.entry) rows q ∙ ap (option_map (λ (r : FlagState). facts_of r.entry)) (row_there q) ∙ facts (entry_there q) ∙ sym (get_release q))
     where
-      facts : (e : Option Entry) → option_map (λ (r : Row). facts_of r.entry) (option_map (carried_row old) e) ≡ option_map facts_of e
+      facts : (e : Option Entry) → option_map (λ (r : FlagState). facts_of r.entry) (option_map (carried_row old) e) ≡ option_map facts_of e
       facts None = refl
       facts (Some e) = refl
 
   -- the overrides that a projection of rows gives
-  overrides_carried : (of : Row → Option Bool) → ((e : Entry) → of (carried_row old e) ≡ option_and_then of (if is_read_write e.kind then row_at key_cmp row_key old (key_of e) else None))
+  overrides_carried : (of : FlagState → Option Bool) → ((e : Entry) → of (carried_row old e) ≡ option_and_then of (if is_read_write e.kind then row_at key_cmp row_key old (key_of e) else None))
       → map_where key_cmp row_key rows of ≡ retain_keys (map_where key_cmp row_key old of) (is_writable release)
   unfolding entry_there
   overrides_carried of by_entry = same_map key_total key_exact _ _ (λ q.
@@ -66,26 +66,26 @@ module _ (old : List Row) (order : AreInOrder key_cmp row_key old) (release : Re
           by_entry e ∙ ap (λ k. option_and_then of (if is_read_write e.kind then row_at key_cmp row_key old k else None)) key ∙ of_kind q (is_read_write e.kind)
 
   -- a table of these rows is the container with this release
-  container-renewed : (digest was : List ℕ) (boot : Option BootMap) → container_in digest rows boot ≡ renewed (container_in was old boot) digest release
-  container-renewed digest was boot =
+  container-with_release : (digest was : List ℕ) (boot : Option BootMap) → container_in digest rows boot ≡ with_release (container_in was old boot) digest release
+  container-with_release digest was boot =
       let server = overrides_carried (λ r. r.server) (λ e. refl) in
       let local = overrides_carried (λ r. r.local) (λ e. refl) in
       λ i. record { digest = digest; release = release_carried i; server = server i; local = local i; boot = boot }
 
-  pub rows-renewed : (digest was : List ℕ) (boot : Option BootMap) → container_in digest (map (carried_row old) (entries_of release)) boot ≡ renewed (container_in was old boot) digest release
+  pub rows-with_release : (digest was : List ℕ) (boot : Option BootMap) → container_in digest (map (carried_row old) (entries_of release)) boot ≡ with_release (container_in was old boot) digest release
   unfolding rows
-  rows-renewed digest was boot = container-renewed digest was boot
+  rows-with_release digest was boot = container-with_release digest was boot
 
-  pub lawful-renewed : (digest was : List ℕ) (boot : Option BootMap) → IsValidContainer (container_in was old boot) → IsLawful (map (carried_row old) (entries_of release)) (container_in digest (map (carried_row old) (entries_of release)) boot)
+  pub lawful-with_release : (digest was : List ℕ) (boot : Option BootMap) → IsValidContainer (container_in was old boot) → IsLawful (map (carried_row old) (entries_of release)) (container_in digest (map (carried_row old) (entries_of release)) boot)
   unfolding rows
-  lawful-renewed digest was boot valid = record {
+  lawful-with_release digest was boot valid = record {
     order = in_order;
-    valid = subst IsValidContainer (sym (rows-renewed digest was boot)) (IsValidContainer-renewed (container_in was old boot) valid digest release);
+    valid = subst IsValidContainer (sym (rows-with_release digest was boot)) (IsValidContainer-with_release (container_in was old boot) valid digest release);
   }
 
 -- without old rows there are no overrides
 pub rows-fresh : (release : ReleaseMap) (digest : List ℕ) → container_in digest (map (carried_row []) (entries_of release)) None ≡ fresh digest release
-rows-fresh release digest = rows-renewed [] refl release digest [] None ∙ (λ i. record { digest = digest; release = release; server = nothing i; local = nothing i; boot = None })
+rows-fresh release digest = rows-with_release [] refl release digest [] None ∙ (λ i. record { digest = digest; release = release; server = nothing i; local = nothing i; boot = None })
   where
     none_of : (b : Bool) → cond {A = Option Bool} b None None ≡ None
     none_of true = refl
@@ -101,7 +101,7 @@ lawful-fresh release digest = record {
   valid = subst IsValidContainer (sym (rows-fresh release digest)) (IsValidContainer-fresh digest release);
 }
 
-module _ (digest : List ℕ) (rows : List Row) (boot : Option BootMap) (order : AreInOrder key_cmp row_key rows) where
+module _ (digest : List ℕ) (rows : List FlagState) (boot : Option BootMap) (order : AreInOrder key_cmp row_key rows) where
   -- the flags as they are booted are in order
   pub booted-in_order : AreInOrder key_cmp booted_key (map booted_row rows)
   booted-in_order = AreInOrder-map key_total booted_key booted_row rows order
@@ -117,11 +117,11 @@ module _ (digest : List ℕ) (rows : List Row) (boot : Option BootMap) (order : 
       flag_at : Key → Kind × Bool → BootedFlag
       flag_at = λ key facts. record { kind = facts.0; value = pick (container_in digest rows boot) key facts.1; server = contains_key (server_in rows) key; local = contains_key (local_in rows) key }
 
-      at : (q : Key) (r : Option Row) → row_at key_cmp row_key rows q ≡ r → option_map booted_flag (option_map booted_row r) ≡ option_map (flag_at q) (option_map (λ (r : Row). facts_of r.entry) r)
+      at : (q : Key) (r : Option FlagState) → row_at key_cmp row_key rows q ≡ r → option_map booted_flag (option_map booted_row r) ≡ option_map (flag_at q) (option_map (λ (r : FlagState). facts_of r.entry) r)
       at q None is = refl
       at q (Some row) is =
-          let server : get (server_in rows) q ≡ row.server = get-map_where key_total row_key (λ r. r.server) rows order q ∙ ap (option_and_then (λ (r : Row). r.server)) is in
-          let local : get (local_in rows) q ≡ row.local = get-map_where key_total row_key (λ r. r.local) rows order q ∙ ap (option_and_then (λ (r : Row). r.local)) is in
+          let server : get (server_in rows) q ≡ row.server = get-map_where key_total row_key (λ r. r.server) rows order q ∙ ap (option_and_then (λ (r : FlagState). r.server)) is in
+          let local : get (local_in rows) q ≡ row.local = get-map_where key_total row_key (λ r. r.local) rows order q ∙ ap (option_and_then (λ (r : FlagState). r.local)) is in
           λ i. Some (record {
             kind = row.entry.kind;
             value = unwrap_or (sym local i) (unwrap_or (sym server i) row.entry.value);
@@ -130,16 +130,16 @@ module _ (digest : List ℕ) (rows : List Row) (boot : Option BootMap) (order : 
           })
 
 -- what an entry carries where it is read-write
-module _ (old : List Row) (entry : Entry) (kind : entry.kind ≡ ReadWrite) (key : Key) (has : key ≡ key_of entry) where
+module _ (old : List FlagState) (entry : Entry) (kind : entry.kind ≡ ReadWrite) (key : Key) (has : key ≡ key_of entry) where
   looked_up : row_at key_cmp row_key old key ≡ (if is_read_write entry.kind then row_at key_cmp row_key old (key_of entry) else None)
   looked_up = ap (row_at key_cmp row_key old) has ∙ ap (λ (k : Kind). if is_read_write k then row_at key_cmp row_key old (key_of entry) else None) (sym kind)
 
-  carries : (row : Option Row) → row_at key_cmp row_key old key ≡ row → record { entry = entry; server = option_and_then (λ (r : Row). r.server) row; local = option_and_then (λ (r : Row). r.local) row } ≡ carried_row old entry
+  carries : (row : Option FlagState) → row_at key_cmp row_key old key ≡ row → record { entry = entry; server = option_and_then (λ (r : FlagState). r.server) row; local = option_and_then (λ (r : FlagState). r.local) row } ≡ carried_row old entry
   carries row is =
       let e = sym is ∙ looked_up in
-      λ i. record { entry = entry; server = option_and_then (λ (r : Row). r.server) (e i); local = option_and_then (λ (r : Row). r.local) (e i) }
+      λ i. record { entry = entry; server = option_and_then (λ (r : FlagState). r.server) (e i); local = option_and_then (λ (r : FlagState). r.local) (e i) }
 
-  pub carried-found : AreInOrder key_cmp row_key old → (at : ℕ) → StandsAt key_cmp row_key old key at → (row : Row) → row ≡ get_or old at row → record { entry = entry; server = row.server; local = row.local } ≡ carried_row old entry
+  pub carried-found : AreInOrder key_cmp row_key old → (at : ℕ) → StandsAt key_cmp row_key old key at → (row : FlagState) → row ≡ get_or old at row → record { entry = entry; server = row.server; local = row.local } ≡ carried_row old entry
   carried-found order at stands row is = carries (Some row) (row_at-stands key_total row_key old order key at row stands ∙ ap Some (sym is))
 
   pub carried-gap : (at : ℕ) → WouldStandAt key_cmp row_key old key at → record { entry = entry; server = None; local = None } ≡ carried_row old entry

@@ -13,15 +13,16 @@ use Rattle.acfg_base.specs.Places.{AreInOrder, StandsAt, WouldStandAt, row_at}
 use Rattle.acfg_base.specs.Release.{Key, ReleaseMap}
 use Rattle.acfg_base.proofs.Rows.{AreInOrder-map, AreInOrder-set, AreInOrder-insert, row_at-map, row_at-stands, row_at-gap, get-map_of, len-map_of, map_of-set, map_of-kept, map_of-insert}
 use Rattle.acfg_base.proofs.Maps.{get-map_values}
-use Rattle.acfg_model.specs.declared.machines.Named.{Named}
-use Rattle.acfg_model.specs.declared.requests.Refusal.{Refusal}
-use Rattle.acfg_model.specs.declared.requests.Refusal.TheVariants.{UnknownContainer, TooManyContainers}
+use Rattle.acfg_model.specs.declared.machines.NamedContainer.{NamedContainer}
+use Rattle.acfg_model.specs.declared.refusals.Refusal.{Refusal}
+use Rattle.acfg_model.specs.declared.refusals.Refusal.TheVariants.{UnknownContainer, TooManyContainers}
 use Rattle.acfg_model.specs.declared.requests.Reply.{Reply}
 use Rattle.acfg_model.specs.declared.requests.Reply.TheVariants.{Fine, Updated, Unchanged, Refused}
 use Rattle.acfg_model.specs.State.{Container, BootedFlag, BootMap, State, name_cmp, IsValid, IsValidContainer, most_containers}
-use Rattle.acfg_model.specs.Step.{booted, renewed, fresh, stored, changed, refused, number_of, boot_value_in, booted_value}
-use Rattle.acfg_model.specs.Tables.{IsOutcome}
-use Rattle.acfg_model.specs.Machines.{name_of, state_of, booted_named, reply_of, IsKept}
+use Rattle.acfg_model.specs.Refusals.{number_of}
+use Rattle.acfg_model.specs.Step.{booted, with_release, fresh, release_step, replaced, refused, boot_value_in, booted_value}
+use Rattle.acfg_model.specs.FlagStates.{IsOutcome}
+use Rattle.acfg_model.specs.Machines.{kept_name, state_of, booted_named, reply_of, IsKept}
 use Rattle.acfg_model.proofs.Valid.{IsValidContainer-booted}
 
 pub name_total : IsTotalOrder name_cmp
@@ -33,7 +34,7 @@ name_exact = exact_bytes
 leb_no : {m n : ℕ} → n < m → leb m n ≡ false
 leb_no {m} {n} h = grind (arith, nat_tests)
 
-some_inside : {X : Type 0} {x y : X} → Some x ≡ Some y → x ≡ y
+pub some_inside : {X : Type 0} {x y : X} → Some x ≡ Some y → x ≡ y
 some_inside e = cc
 
 none_is_some : {X : Type 0} {x : X} → None ≡ Some x → ⊥
@@ -68,68 +69,68 @@ IsValid-added state valid name c absent room ok =
     let longer : len (insert state name c) ≡ len state + 1 = len-insert name_total state name c ∙ ap (λ o. cond (is_some o) (len state) (len state + 1)) absent in
     record { bound = omega (arith, longer, room); each = inserted_each state valid name c ok }
 
-module _ (list : List Named) (kept : IsKept list) (name : List ℕ) (at : ℕ) (stands : StandsAt name_cmp name_of list name at) (named : Named) (is : named ≡ get_or list at named) where
-  same_name : name_of named ≡ name
-  same_name = ap name_of is ∙ name_exact _ _ (stands.same named)
+module _ (list : List NamedContainer) (kept : IsKept list) (name : List ℕ) (at : ℕ) (stands : StandsAt name_cmp kept_name list name at) (named : NamedContainer) (is : named ≡ get_or list at named) where
+  same_name : kept_name named ≡ name
+  same_name = ap kept_name is ∙ name_exact _ _ (stands.same named)
 
-  pub state_at : get (state_of list) name ≡ Some named.table
-  state_at = get-map_of name_total name_of (λ n. n.table) list name ∙ ap (option_map (λ (n : Named). n.table)) (row_at-stands name_total name_of list kept.order name at named stands ∙ ap Some (sym is))
+  pub state_at : get (state_of list) name ≡ Some named.container
+  state_at = get-map_of name_total kept_name (λ n. n.container) list name ∙ ap (option_map (λ (n : NamedContainer). n.container)) (row_at-stands name_total kept_name list kept.order name at named stands ∙ ap Some (sym is))
 
   module _ (new : Container) where
-    next : List Named
-    next = set list at (record { name = named.name; table = new })
+    next : List NamedContainer
+    next = set list at (record { name = named.name; container = new })
 
-    keyed : name_of (get_or list at (record { name = named.name; table = new })) ≡ named.name
-    keyed = ap name_of (get_or_default list at (record { name = named.name; table = new }) named stands.within ∙ sym is)
+    keyed : kept_name (get_or list at (record { name = named.name; container = new })) ≡ named.name
+    keyed = ap kept_name (get_or_default list at (record { name = named.name; container = new }) named stands.within ∙ sym is)
 
     state_replaced : state_of next ≡ insert (state_of list) name new
     unfolding next
-    state_replaced = map_of-set name_total name_of name_exact list kept.order at (record { name = named.name; table = new }) stands.within keyed (λ n. n.table) ∙ ap (λ k. insert (state_of list) k new) same_name
+    state_replaced = map_of-set name_total kept_name name_exact list kept.order at (record { name = named.name; container = new }) stands.within keyed (λ n. n.container) ∙ ap (λ k. insert (state_of list) k new) same_name
 
-    pub state_set : state_of (set list at (record { name = named.name; table = new })) ≡ insert (state_of list) name new
+    pub state_set : state_of (set list at (record { name = named.name; container = new })) ≡ insert (state_of list) name new
     unfolding next
     state_set = state_replaced
 
-    pub IsKept-set : IsValidContainer new → IsKept (set list at (record { name = named.name; table = new }))
+    pub IsKept-set : IsValidContainer new → IsKept (set list at (record { name = named.name; container = new }))
     IsKept-set ok = record {
-      order = AreInOrder-set name_total name_of list kept.order at (record { name = named.name; table = new }) stands.within keyed;
-      valid = subst IsValid (sym state_set) (IsValid-replaced (state_of list) kept.valid name named.table new state_at ok);
+      order = AreInOrder-set name_total kept_name list kept.order at (record { name = named.name; container = new }) stands.within keyed;
+      valid = subst IsValid (sym state_set) (IsValid-replaced (state_of list) kept.valid name named.container new state_at ok);
     }
 
-    pub state_same : new ≡ named.table → state_of (set list at (record { name = named.name; table = new })) ≡ state_of list
-    state_same same = map_of-kept name_total name_of name_exact list kept.order at (record { name = named.name; table = new }) stands.within keyed (λ n. n.table)
-        (same ∙ sym (ap (λ (n : Named). n.table) (get_or_default list at (record { name = named.name; table = new }) named stands.within ∙ sym is)))
+    pub state_same : new ≡ named.container → state_of (set list at (record { name = named.name; container = new })) ≡ state_of list
+    state_same same = map_of-kept name_total kept_name name_exact list kept.order at (record { name = named.name; container = new }) stands.within keyed (λ n. n.container)
+        (same ∙ sym (ap (λ (n : NamedContainer). n.container) (get_or_default list at (record { name = named.name; container = new }) named stands.within ∙ sym is)))
 
     -- the outcome at the container is the machine's
-    pub changed-made : {A : Type 0} (f : Container → Result Container Refusal) (r : Result A Refusal) → IsOutcome (f named.table) r named.table new → (reply : Reply) → reply ≡ reply_of r
-        → changed (state_of list) name (option_map f (get (state_of list) name)) ≡ (state_of (set list at (record { name = named.name; table = new })), reply)
-    changed-made f r outcome reply replied = ap (λ c. changed (state_of list) name (option_map f c)) state_at ∙ by_result r outcome ∙ ap (pair_of (state_of (set list at (record { name = named.name; table = new })))) (sym replied)
+    pub replaced-made : {A : Type 0} (f : Container → Result Container Refusal) (r : Result A Refusal) → IsOutcome (f named.container) r named.container new → (reply : Reply) → reply ≡ reply_of r
+        → replaced (state_of list) name (option_map f (get (state_of list) name)) ≡ (state_of (set list at (record { name = named.name; container = new })), reply)
+    replaced-made f r outcome reply replied = ap (λ c. replaced (state_of list) name (option_map f c)) state_at ∙ by_result r outcome ∙ ap (pair_of (state_of (set list at (record { name = named.name; container = new })))) (sym replied)
       where
-        by_result : {A : Type 0} (r : Result A Refusal) → IsOutcome (f named.table) r named.table new → changed (state_of list) name (Some (f named.table)) ≡ (state_of (set list at (record { name = named.name; table = new })), reply_of r)
-        by_result (Ok done) e = ap (λ c. changed (state_of list) name (Some c)) e ∙ ap (λ s. pair_of s Fine) (sym state_set)
-        by_result (Err refusal) e = ap (λ c. changed (state_of list) name (Some c)) e.0 ∙ ap (λ s. pair_of s (Refused (number_of refusal))) (sym (state_same e.1))
+        by_result : {A : Type 0} (r : Result A Refusal) → IsOutcome (f named.container) r named.container new → replaced (state_of list) name (Some (f named.container)) ≡ (state_of (set list at (record { name = named.name; container = new })), reply_of r)
+        by_result (Ok done) e = ap (λ c. replaced (state_of list) name (Some c)) e ∙ ap (λ s. pair_of s Fine) (sym state_set)
+        by_result (Err refusal) e = ap (λ c. replaced (state_of list) name (Some c)) e.0 ∙ ap (λ s. pair_of s (Refused (number_of refusal))) (sym (state_same e.1))
 
 -- a name that no container has
-pub state_absent : (list : List Named) (name : List ℕ) (at : ℕ) → WouldStandAt name_cmp name_of list name at → get (state_of list) name ≡ None
-state_absent list name at gap = get-map_of name_total name_of (λ n. n.table) list name ∙ ap (option_map (λ (n : Named). n.table)) (row_at-gap name_total name_of list name at gap)
+pub state_absent : (list : List NamedContainer) (name : List ℕ) (at : ℕ) → WouldStandAt name_cmp kept_name list name at → get (state_of list) name ≡ None
+state_absent list name at gap = get-map_of name_total kept_name (λ n. n.container) list name ∙ ap (option_map (λ (n : NamedContainer). n.container)) (row_at-gap name_total kept_name list name at gap)
 
-pub changed-absent : (list : List Named) (name : List ℕ) (at : ℕ) (f : Container → Result Container Refusal) → WouldStandAt name_cmp name_of list name at → changed (state_of list) name (option_map f (get (state_of list) name)) ≡ refused (state_of list) UnknownContainer
-changed-absent list name at f gap = ap (λ c. changed (state_of list) name (option_map f c)) (state_absent list name at gap)
+pub replaced-absent : (list : List NamedContainer) (name : List ℕ) (at : ℕ) (f : Container → Result Container Refusal) → WouldStandAt name_cmp kept_name list name at → replaced (state_of list) name (option_map f (get (state_of list) name)) ≡ refused (state_of list) UnknownContainer
+replaced-absent list name at f gap = ap (λ c. replaced (state_of list) name (option_map f c)) (state_absent list name at gap)
 
 -- what an update comes to, by what is there and how its digest stands to the update's
 module _ (state : State) (name digest : List ℕ) (release : ReleaseMap) (c : Container) (there : get state name ≡ Some c) where
-  pub stored-same : bytes_eq c.digest digest ≡ true → stored state name digest release (get state name) ≡ (state, Unchanged)
-  stored-same same = ap (stored state name digest release) there ∙ ap (λ b. cond b (pair_of state Unchanged) (pair_of (insert state name (renewed c digest release)) (Updated digest (len release)))) same
+  pub release_step-same : bytes_eq c.digest digest ≡ true → release_step state name digest release (get state name) ≡ (state, Unchanged)
+  release_step-same same = ap (release_step state name digest release) there ∙ ap (λ b. cond b (pair_of state Unchanged) (pair_of (insert state name (with_release c digest release)) (Updated digest (len release)))) same
 
-  pub stored-renewed : bytes_eq c.digest digest ≡ false → stored state name digest release (get state name) ≡ (insert state name (renewed c digest release), Updated digest (len release))
-  stored-renewed apart = ap (stored state name digest release) there ∙ ap (λ b. cond b (pair_of state Unchanged) (pair_of (insert state name (renewed c digest release)) (Updated digest (len release)))) apart
+  pub release_step-with_release : bytes_eq c.digest digest ≡ false → release_step state name digest release (get state name) ≡ (insert state name (with_release c digest release), Updated digest (len release))
+  release_step-with_release apart = ap (release_step state name digest release) there ∙ ap (λ b. cond b (pair_of state Unchanged) (pair_of (insert state name (with_release c digest release)) (Updated digest (len release)))) apart
 
 module _ (state : State) (name digest : List ℕ) (release : ReleaseMap) (absent : get state name ≡ None) where
-  pub stored-full : most_containers ≤ len state → stored state name digest release (get state name) ≡ refused state TooManyContainers
-  stored-full full = ap (stored state name digest release) absent ∙ ap (λ b. cond b (refused state TooManyContainers) (pair_of (insert state name (fresh digest release)) (Updated digest (len release)))) (le-leb most_containers (len state) full)
+  pub release_step-full : most_containers ≤ len state → release_step state name digest release (get state name) ≡ refused state TooManyContainers
+  release_step-full full = ap (release_step state name digest release) absent ∙ ap (λ b. cond b (refused state TooManyContainers) (pair_of (insert state name (fresh digest release)) (Updated digest (len release)))) (le-leb most_containers (len state) full)
 
-  pub stored-added : len state < most_containers → stored state name digest release (get state name) ≡ (insert state name (fresh digest release), Updated digest (len release))
-  stored-added room = ap (stored state name digest release) absent ∙ ap (λ b. cond b (refused state TooManyContainers) (pair_of (insert state name (fresh digest release)) (Updated digest (len release)))) (leb_no room)
+  pub release_step-added : len state < most_containers → release_step state name digest release (get state name) ≡ (insert state name (fresh digest release), Updated digest (len release))
+  release_step-added room = ap (release_step state name digest release) absent ∙ ap (λ b. cond b (refused state TooManyContainers) (pair_of (insert state name (fresh digest release)) (Updated digest (len release)))) (leb_no room)
 
 -- the value in a boot copy, from the answer of its container
 value_of : Option BootMap → Key → Option Bool
@@ -157,30 +158,30 @@ module _ (state : State) (name : List ℕ) (key : Key) (c : Container) (there : 
 pub booted_value-absent : (state : State) (name : List ℕ) (key : Key) → get state name ≡ None → booted_value state name key ≡ None
 booted_value-absent state name key absent = ap (option_and_then (λ (d : Container). option_and_then (λ (b : BootMap). option_map (λ (f : BootedFlag). f.value) (get b key)) d.boot)) absent
 
-module _ (list : List Named) (kept : IsKept list) where
+module _ (list : List NamedContainer) (kept : IsKept list) where
   pub len-state_of : len (state_of list) ≡ length list
-  len-state_of = len-map_of name_total name_of name_exact (λ n. n.table) list kept.order
+  len-state_of = len-map_of name_total kept_name name_exact (λ n. n.container) list kept.order
 
-  module _ (named : Named) (at : ℕ) (gap : WouldStandAt name_cmp name_of list named.name at) where
-    pub state_insert : state_of (lists.insert list at named) ≡ insert (state_of list) named.name named.table
-    state_insert = map_of-insert name_total name_of name_exact (λ n. n.table) list at named gap
+  module _ (named : NamedContainer) (at : ℕ) (gap : WouldStandAt name_cmp kept_name list named.name at) where
+    pub state_insert : state_of (lists.insert list at named) ≡ insert (state_of list) named.name named.container
+    state_insert = map_of-insert name_total kept_name name_exact (λ n. n.container) list at named gap
 
-    pub IsKept-insert : length list < most_containers → IsValidContainer named.table → IsKept (lists.insert list at named)
+    pub IsKept-insert : length list < most_containers → IsValidContainer named.container → IsKept (lists.insert list at named)
     IsKept-insert room ok = record {
-      order = AreInOrder-insert name_total name_of list kept.order at named gap;
-      valid = subst IsValid (sym state_insert) (IsValid-added (state_of list) kept.valid named.name named.table (state_absent list named.name at gap) (subst (λ n. n < most_containers) (sym len-state_of) room) ok);
+      order = AreInOrder-insert name_total kept_name list kept.order at named gap;
+      valid = subst IsValid (sym state_insert) (IsValid-added (state_of list) kept.valid named.name named.container (state_absent list named.name at gap) (subst (λ n. n < most_containers) (sym len-state_of) room) ok);
     }
 
   -- a boot of every container
-  order_booted : AreInOrder name_cmp name_of (map booted_named list)
-  order_booted = AreInOrder-map name_total name_of booted_named list kept.order
+  order_booted : AreInOrder name_cmp kept_name (map booted_named list)
+  order_booted = AreInOrder-map name_total kept_name booted_named list kept.order
 
   pub state_booted : state_of (map booted_named list) ≡ map_values (λ name. booted) (state_of list)
   state_booted = same_map name_total name_exact _ _ (λ q.
-      get-map_of name_total name_of (λ n. n.table) (map booted_named list) q ∙ ap (option_map (λ (n : Named). n.table)) (row_at-map name_total name_of booted_named list q)
-      ∙ at (row_at name_cmp name_of list q) ∙ ap (option_map booted) (sym (get-map_of name_total name_of (λ n. n.table) list q)) ∙ sym (get-map_values name_total name_exact (λ name. booted) (state_of list) q))
+      get-map_of name_total kept_name (λ n. n.container) (map booted_named list) q ∙ ap (option_map (λ (n : NamedContainer). n.container)) (row_at-map name_total kept_name booted_named list q)
+      ∙ at (row_at name_cmp kept_name list q) ∙ ap (option_map booted) (sym (get-map_of name_total kept_name (λ n. n.container) list q)) ∙ sym (get-map_values name_total name_exact (λ name. booted) (state_of list) q))
     where
-      at : (n : Option Named) → option_map (λ (n : Named). n.table) (option_map booted_named n) ≡ option_map booted (option_map (λ (n : Named). n.table) n)
+      at : (n : Option NamedContainer) → option_map (λ (n : NamedContainer). n.container) (option_map booted_named n) ≡ option_map booted (option_map (λ (n : NamedContainer). n.container) n)
       at None = refl
       at (Some n) = refl
 
@@ -192,7 +193,7 @@ module _ (list : List Named) (kept : IsKept list) where
   IsKept-booted = record {
     order = order_booted;
     valid = record {
-      bound = subst (λ n. n ≤ most_containers) (len-state_of ∙ sym (length-map list booted_named) ∙ sym (len-map_of name_total name_of name_exact (λ n. n.table) (map booted_named list) order_booted)) kept.valid.bound;
+      bound = subst (λ n. n ≤ most_containers) (len-state_of ∙ sym (length-map list booted_named) ∙ sym (len-map_of name_total kept_name name_exact (λ n. n.container) (map booted_named list) order_booted)) kept.valid.bound;
       each = λ name c e. booted_each (get (state_of list) name) (kept.valid.each name) c (sym (get-map_values name_total name_exact (λ name. booted) (state_of list) name) ∙ ap (λ s. get s name) (sym state_booted) ∙ e);
     };
   }

@@ -6,30 +6,30 @@ use Rattle.acfg_base.specs.Places.{AreInOrder, StandsAt, WouldStandAt}
 use Rattle.acfg_base.specs.Release.{Key, key_cmp, facts_of}
 use Rattle.acfg_base.proofs.Rows.{AreInOrder-set, map_of-kept, map_where-kept, map_where-set, map_where-remove, row_at-stands, row_at-gap, get-map_of, get-map_where}
 use Rattle.acfg_base.proofs.Keys.{key_total, key_exact}
-use Rattle.acfg_model.specs.declared.tables.Row.{Row}
+use Rattle.acfg_model.specs.declared.containers.FlagState.{FlagState}
 use Rattle.acfg_model.specs.State.{BootMap}
-use Rattle.acfg_model.specs.Tables.{row_key, release_in, server_in, local_in, container_in}
+use Rattle.acfg_model.specs.FlagStates.{row_key, release_in, server_in, local_in, container_in}
 
-module _ (rows : List Row) (order : AreInOrder key_cmp row_key rows) (key : Key) (at : ℕ) (stands : StandsAt key_cmp row_key rows key at) (row : Row) (is : row ≡ get_or rows at row) where
+module _ (rows : List FlagState) (order : AreInOrder key_cmp row_key rows) (key : Key) (at : ℕ) (stands : StandsAt key_cmp row_key rows key at) (row : FlagState) (is : row ≡ get_or rows at row) where
   -- the row has the key
   pub same_key : row_key row ≡ key
   same_key = ap row_key is ∙ key_exact _ _ (stands.same row)
 
   pub release_at : get (release_in rows) key ≡ Some (facts_of row.entry)
   release_at = get-map_of key_total row_key (λ r. facts_of r.entry) rows key
-      ∙ ap (option_map (λ (r : Row). facts_of r.entry)) (row_at-stands key_total row_key rows order key at row stands ∙ ap Some (sym is))
+      ∙ ap (option_map (λ (r : FlagState). facts_of r.entry)) (row_at-stands key_total row_key rows order key at row stands ∙ ap Some (sym is))
 
   -- what the maps of overrides have at the key
   pub server_at : get (server_in rows) key ≡ row.server
   server_at = get-map_where key_total row_key (λ r. r.server) rows order key
-      ∙ ap (option_and_then (λ (r : Row). r.server)) (row_at-stands key_total row_key rows order key at row stands ∙ ap Some (sym is))
+      ∙ ap (option_and_then (λ (r : FlagState). r.server)) (row_at-stands key_total row_key rows order key at row stands ∙ ap Some (sym is))
 
   pub local_at : get (local_in rows) key ≡ row.local
   local_at = get-map_where key_total row_key (λ r. r.local) rows order key
-      ∙ ap (option_and_then (λ (r : Row). r.local)) (row_at-stands key_total row_key rows order key at row stands ∙ ap Some (sym is))
+      ∙ ap (option_and_then (λ (r : FlagState). r.local)) (row_at-stands key_total row_key rows order key at row stands ∙ ap Some (sym is))
 
-  module _ (digest : List ℕ) (boot : Option BootMap) (new : Row) where
-    here : (Y : Type 0) (f : Row → Y) → f new ≡ f row → f (get_or rows at new) ≡ f new
+  module _ (digest : List ℕ) (boot : Option BootMap) (new : FlagState) where
+    here : (Y : Type 0) (f : FlagState → Y) → f new ≡ f row → f (get_or rows at new) ≡ f new
     here Y f e = ap f (get_or_default rows at new row stands.within ∙ sym is) ∙ sym e
 
     module _ (entry : new.entry ≡ row.entry) where
@@ -67,5 +67,5 @@ module _ (rows : List Row) (order : AreInOrder key_cmp row_key rows) (key : Key)
           λ i. record { digest = digest; release = release_kept i; server = by_server i; local = by_local i; boot = boot }
 
 -- where no row has the key, the release hasn't either
-pub release_absent : (rows : List Row) (key : Key) (at : ℕ) → WouldStandAt key_cmp row_key rows key at → get (release_in rows) key ≡ None
-release_absent rows key at gap = get-map_of key_total row_key (λ r. facts_of r.entry) rows key ∙ ap (option_map (λ (r : Row). facts_of r.entry)) (row_at-gap key_total row_key rows key at gap)
+pub release_absent : (rows : List FlagState) (key : Key) (at : ℕ) → WouldStandAt key_cmp row_key rows key at → get (release_in rows) key ≡ None
+release_absent rows key at gap = get-map_of key_total row_key (λ r. facts_of r.entry) rows key ∙ ap (option_map (λ (r : FlagState). facts_of r.entry)) (row_at-gap key_total row_key rows key at gap)

@@ -10,16 +10,18 @@ use Rattle.acfg_base.proofs.Rows.{Equal_of}
 use Rattle.acfg_base.proofs.Keys.{key_total, key_exact}
 use Rattle.acfg_base.proofs.Maps.{get-map_values}
 use Rattle.acfg_model.specs.State.{BootedFlag, BootMap, Container, is_read_write, is_writable, pick, IsValidContainer}
-use Rattle.acfg_model.specs.Step.{override_refusal, boot_map, booted, renewed, fresh}
+use Rattle.acfg_model.specs.declared.changes.Change.{Change}
+use Rattle.acfg_model.specs.declared.changes.Change.TheVariants.{SetServer, SetLocal, UnsetLocal}
+use Rattle.acfg_model.specs.Step.{set_refusal, change_refusal, changed, boot_map, booted, booted_flag_of, with_release, fresh}
 
 -- what isn't refused may be written
-writable_facts : (facts : Option (Kind × Bool)) → override_refusal facts ≡ None → option_map_or (λ f. is_read_write f.0) facts false ≡ true
+writable_facts : (facts : Option (Kind × Bool)) → set_refusal facts ≡ None → option_map_or (λ f. is_read_write f.0) facts false ≡ true
 writable_facts None e = cc
 writable_facts (Some (ReadWrite, value)) e = refl
 writable_facts (Some (ReadOnly, value)) e = cc
 writable_facts (Some (Fixed, value)) e = cc
 
-pub writable_from_no_refusal : (release : ReleaseMap) (key : Key) → override_refusal (get release key) ≡ None → IsTrue (is_writable release key)
+pub writable_from_no_refusal : (release : ReleaseMap) (key : Key) → set_refusal (get release key) ≡ None → IsTrue (is_writable release key)
 writable_from_no_refusal release key e = writable_facts (get release key) e
 
 -- a map that holds a value at one key more
@@ -68,8 +70,13 @@ module _ (c : Container) (valid : IsValidContainer c) where
     noted = valid.noted;
   }
 
-  pub IsValidContainer-renewed : (digest : List ℕ) (release : ReleaseMap) → IsValidContainer (renewed c digest release)
-  IsValidContainer-renewed digest release = record {
+  pub IsValidContainer-changed : (change : Change) → change_refusal c.release c.local change ≡ None → IsValidContainer (changed c change)
+  IsValidContainer-changed (SetServer key value) may = IsValidContainer-server key value (writable_from_no_refusal c.release key may)
+  IsValidContainer-changed (SetLocal key value) may = IsValidContainer-local key value (writable_from_no_refusal c.release key may)
+  IsValidContainer-changed (UnsetLocal key) may = IsValidContainer-unset key
+
+  pub IsValidContainer-with_release : (digest : List ℕ) (release : ReleaseMap) → IsValidContainer (with_release c digest release)
+  IsValidContainer-with_release digest release = record {
     server = λ k v e. kept_at c.server (is_writable release) k v e;
     local = λ k v e. kept_at c.local (is_writable release) k v e;
     noted = valid.noted;

@@ -1,7 +1,7 @@
-pub mod Boots
+pub mod Codes
+pub mod FlagStates
 pub mod Machines
-pub mod Overrides
+pub mod Refusals
 pub mod State
 pub mod Step
-pub mod Tables
 pub mod Views

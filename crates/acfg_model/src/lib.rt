@@ -1,18 +1,17 @@
 //! The plain machine: a pure model of the flag daemon, on finite maps.
 #![tactic(auto)]
 
-mod boots;
+mod changes;
+mod containers;
 mod machines;
-mod overrides;
+mod refusals;
 mod requests;
-mod tables;
 mod views;
 
-pub use boots::{BootCopy, Booted};
 pub use machines::Machine;
-pub use overrides::{Override, Overrides};
-pub use requests::{Directory, Loaded, Refusal, Reply, Request};
-pub use views::{ContainerState, State};
+pub use refusals::Refusal;
+pub use requests::{Loaded, Reply, Request};
+pub use views::{BootCopy, Booted, ContainerState, Override, Overrides, State};
 
 #[cfg(test)]
 mod tests;

@@ -5,14 +5,17 @@ ghost use Rattle.std.specs.Option.{ForSome};
 ghost use Rattle.std.specs.FinMap.{empty, get, len};
 ghost use Rattle.acfg_base.specs.Places.{AreInOrder, IsPlace};
 ghost use Rattle.acfg_model.specs.State.{IsValid, name_cmp};
-ghost use Rattle.acfg_model.specs.Step.{IsLoadedFor, IsRefused, Fits, booted_value, boot_map, change, get_reply, step, stored, updated, with_server, with_local, without_local};
-ghost use Rattle.acfg_model.specs.Machines.{name_of, state_of, booted_named, reply_of};
+ghost use Rattle.acfg_model.specs.Step.{IsLoadedFor, IsRefused, Fits, booted_value, boot_map, change_step, get_reply};
+ghost use Rattle.acfg_model.specs.Step.{release_step, step, update_step};
+ghost use Rattle.acfg_model.specs.Views.{boot_of, state_from};
+ghost use Rattle.acfg_model.specs.Machines.{kept_name, state_of, booted_named, reply_of};
 
-use crate::boots::BootCopy;
-use crate::requests::{Loaded, Refusal, Reply, Request};
-use crate::tables::Table;
-use crate::views::State;
-use acfg_base::{ContainerName, OutOfMemory, Release};
+use crate::changes::{Change, FlagKey};
+use crate::containers::Container;
+use crate::refusals::Refusal;
+use crate::requests::{Loaded, Reply, Request};
+use crate::views::{BootCopy, State};
+use acfg_base::{ContainerName, InOrder, OutOfMemory, Release};
 use std::alloc::{AllocError, Global};
 use std::marker::Model;
 
@@ -21,19 +24,20 @@ const MOST_CONTAINERS: usize = 256;
 
 /// A container and its name.
 #[derive(Debug, Drop)]
-pub struct Named {
+pub struct NamedContainer {
     pub name: ContainerName,
-    pub table: Table,
+    pub container: Container,
 }
 
 /// The plain machine. Contracts see a finite map from names to containers, which is always valid.
 #[derive(Debug, Drop)]
 pub struct Machine {
-    containers: Vec<Named>,
+    containers: Vec<NamedContainer>,
 }
 
 impl Model for Machine {
-    ghost use Rattle.acfg_model.specs.State.{State, state_code};
+    ghost use Rattle.acfg_model.specs.Codes.{state_code};
+    ghost use Rattle.acfg_model.specs.State.{State};
     ghost use Rattle.acfg_model.specs.Machines.{state_of, IsKept};
 
     ghost Value = { State };
@@ -60,10 +64,10 @@ impl Machine {
         ensures value { result ≡ booted_value self.now container.now («package».now, flag.now) }
         ensures valid { IsValid self.now }
     {
-        match place(&self.containers, container) {
+        match place_of(&self.containers, container) {
             Ok(at) => {
                 let named = &self.containers[at];
-                match named.table.boot_value(package, flag) {
+                match named.container.boot_value(package, flag) {
                     Ok(value) => value,
                     Err(_) => None,
                 }
@@ -74,46 +78,19 @@ impl Machine {
 
     /// The state, as lists in order.
     pub fn view(&self, alloc: Global) -> Result<State, OutOfMemory>
-        ensures state { IfOk result (λ state. state ≡ self.now) }
+        ensures state { IfOk result (λ state. state_from state ≡ self.now) }
         ensures valid { IsValid self.now }
     {
         Ok(shown(alloc, &self.containers)?)
     }
 
-    fn set_server(&mut self, name: &str, package: &str, flag: &str, value: bool) -> Reply
-        ensures { change self.old name.now (λ container. with_server container («package».now, flag.now) value)
-            ≡ (self.new, result) }
+    fn change(&mut self, name: &str, change: &Change<'_>) -> Reply
+        ensures { change_step self.old name.now change.now ≡ (self.new, result) }
     {
-        match place(&self.containers, name) {
+        match place_of(&self.containers, name) {
             Ok(at) => {
                 let named = &mut self.containers[at];
-                reply(named.table.set_server(package, flag, value))
-            }
-            Err(_) => Reply::Refused(Refusal::UnknownContainer.number()),
-        }
-    }
-
-    fn set_local(&mut self, name: &str, package: &str, flag: &str, value: bool) -> Reply
-        ensures { change self.old name.now (λ container. with_local container («package».now, flag.now) value)
-            ≡ (self.new, result) }
-    {
-        match place(&self.containers, name) {
-            Ok(at) => {
-                let named = &mut self.containers[at];
-                reply(named.table.set_local(package, flag, value))
-            }
-            Err(_) => Reply::Refused(Refusal::UnknownContainer.number()),
-        }
-    }
-
-    fn unset_local(&mut self, name: &str, package: &str, flag: &str) -> Reply
-        ensures { change self.old name.now (λ container. without_local container («package».now, flag.now))
-            ≡ (self.new, result) }
-    {
-        match place(&self.containers, name) {
-            Ok(at) => {
-                let named = &mut self.containers[at];
-                reply(named.table.unset_local(package, flag))
+                reply(named.container.change(change))
             }
             Err(_) => Reply::Refused(Refusal::UnknownContainer.number()),
         }
@@ -122,10 +99,10 @@ impl Machine {
     fn get(&self, name: &str, package: &str, flag: &str) -> Reply
         ensures { result ≡ get_reply self.now name.now («package».now, flag.now) }
     {
-        match place(&self.containers, name) {
+        match place_of(&self.containers, name) {
             Ok(at) => {
                 let named = &self.containers[at];
-                match named.table.boot_value(package, flag) {
+                match named.container.boot_value(package, flag) {
                     Ok(value) => Reply::Value(value),
                     Err(refusal) => Reply::Refused(refusal.number()),
                 }
@@ -139,7 +116,7 @@ impl Machine {
         ensures err { OnErr result (self.new ≡ self.old) }
     {
         let copies = boot_copies(alloc, &self.containers)?;
-        install(&mut self.containers, copies);
+        set_boot_copies(&mut self.containers, copies);
         Ok(Reply::Fine)
     }
 
@@ -150,18 +127,20 @@ impl Machine {
         loaded: Option<Loaded>,
     ) -> Result<Reply, AllocError>
         requires { ForSome loaded Fits }
-        ensures ok { IfOk result (λ reply. updated self.old name.now loaded ≡ (self.new, reply)) }
+        ensures ok { IfOk result (λ reply. update_step self.old name.now loaded ≡ (self.new, reply)) }
         ensures err { OnErr result (self.new ≡ self.old) }
     {
         match loaded {
-            Some(Loaded::Release(digest, release)) => self.store(alloc, name, digest, release),
+            Some(Loaded::Release(digest, release)) => self.update_release(
+                alloc, name, digest, release,
+            ),
             Some(Loaded::Bad) => Ok(Reply::Refused(Refusal::BadImage.number())),
             Some(Loaded::Disagree) => Ok(Reply::Refused(Refusal::FilesDisagree.number())),
             Some(Loaded::Missing) | None => Ok(Reply::Refused(Refusal::MissingFile.number())),
         }
     }
 
-    fn store(
+    fn update_release(
         &mut self,
         alloc: Global,
         name: &ContainerName,
@@ -170,26 +149,27 @@ impl Machine {
     ) -> Result<Reply, AllocError>
         requires { len release < 2 ^ 32 }
         ensures ok { let kept = get self.old name.now in
-            IfOk result (λ reply. stored self.old name.now digest release kept ≡ (self.new, reply)) }
+            IfOk result (λ reply. release_step self.old name.now digest release kept ≡ (self.new, reply)) }
         ensures err { OnErr result (self.new ≡ self.old) }
     {
         let count = release.len() as u32;
-        match place(&self.containers, name.as_str()) {
+        match place_of(&self.containers, name.as_str()) {
             Ok(at) => {
                 let named = &mut self.containers[at];
-                if named.table.digest() == digest {
+                if named.container.digest() == digest {
                     return Ok(Reply::Unchanged);
                 }
-                named.table.renew(alloc, digest, release)?;
+                named.container.set_release(alloc, digest, release)?;
                 Ok(Reply::Updated(digest, count))
             }
             Err(at) => {
                 if self.containers.as_slice().len() >= MOST_CONTAINERS {
                     return Ok(Reply::Refused(Refusal::TooManyContainers.number()));
                 }
-                let table = Table::new(alloc, digest, release)?;
+                let container = Container::new(alloc, digest, release)?;
                 let name = name.clone()?;
-                self.containers.insert(at, Named { name, table })?;
+                self.containers
+                    .insert(at, NamedContainer { name, container })?;
                 Ok(Reply::Updated(digest, count))
             }
         }
@@ -212,18 +192,33 @@ impl Machine {
                 package,
                 flag,
                 value,
-            } => Ok(self.set_server(container.as_str(), package.as_str(), flag.as_str(), *value)),
+            } => {
+                let change = Change::SetServer(
+                    FlagKey::new(package.as_str(), flag.as_str()),
+                    *value,
+                );
+                Ok(self.change(container.as_str(), &change))
+            }
             Request::Local {
                 container,
                 package,
                 flag,
                 value,
-            } => Ok(self.set_local(container.as_str(), package.as_str(), flag.as_str(), *value)),
+            } => {
+                let change = Change::SetLocal(
+                    FlagKey::new(package.as_str(), flag.as_str()),
+                    *value,
+                );
+                Ok(self.change(container.as_str(), &change))
+            }
             Request::Unset {
                 container,
                 package,
                 flag,
-            } => Ok(self.unset_local(container.as_str(), package.as_str(), flag.as_str())),
+            } => {
+                let change = Change::UnsetLocal(FlagKey::new(package.as_str(), flag.as_str()));
+                Ok(self.change(container.as_str(), &change))
+            }
             Request::Boot => self.boot(alloc),
             Request::Get {
                 container,
@@ -257,36 +252,36 @@ impl Machine {
 }
 
 // The state of containers in order.
-fn shown(alloc: Global, containers: &[Named]) -> Result<State, AllocError>
-    requires { AreInOrder name_cmp name_of containers.now }
-    ensures { IfOk result (λ state. state ≡ state_of containers.now) }
+fn shown(alloc: Global, containers: &[NamedContainer]) -> Result<State, AllocError>
+    requires { AreInOrder name_cmp kept_name containers.now }
+    ensures { IfOk result (λ state. state_from state ≡ state_of containers.now) }
 {
     let mut states = Vec::with_capacity(alloc, containers.len())?;
     for named in containers {
-        states.push(named.table.shown(alloc, &named.name)?)?;
+        states.push(named.container.shown(alloc, &named.name)?)?;
     }
-    Ok(State::from_sorted(states))
+    Ok(InOrder::from_sorted(states))
 }
 
 // The boot copies that a boot would make, one for each container.
-fn boot_copies(alloc: Global, containers: &[Named]) -> Result<Vec<BootCopy>, AllocError>
-    ensures { IfOk result (λ copies. copies.items ≡ map (λ named. boot_map named.table) containers.now) }
+fn boot_copies(alloc: Global, containers: &[NamedContainer]) -> Result<Vec<BootCopy>, AllocError>
+    ensures { IfOk result (λ copies. map boot_of copies.items ≡ map (λ named. boot_map named.container) containers.now) }
 {
     let mut copies = Vec::with_capacity(alloc, containers.len())?;
     for named in containers {
-        copies.push(named.table.boot_copy(alloc)?)?;
+        copies.push(named.container.boot_copy(alloc)?)?;
     }
     Ok(copies)
 }
 
 // Gives each container the boot copy that was made for it, from the last one back.
-fn install(containers: &mut Vec<Named>, mut copies: Vec<BootCopy>)
-    requires { copies.items ≡ map (λ named. boot_map named.table) containers.old.items }
+fn set_boot_copies(containers: &mut Vec<NamedContainer>, mut copies: Vec<BootCopy>)
+    requires { map boot_of copies.items ≡ map (λ named. boot_map named.container) containers.old.items }
     ensures { containers.new.items ≡ map booted_named containers.old.items }
 {
     while let Some(copy) = copies.pop() {
         let named = &mut containers[copies.len()];
-        named.table.set_boot(copy);
+        named.container.set_boot(copy);
     }
 }
 
@@ -301,9 +296,9 @@ fn reply(outcome: Result<(), Refusal>) -> Reply
 }
 
 // Where a container stands among containers in order, or where it would stand.
-fn place(containers: &[Named], name: &str) -> Result<usize, usize>
-    requires { AreInOrder name_cmp name_of containers.now }
-    ensures { IsPlace name_cmp name_of containers.now name.now result }
+fn place_of(containers: &[NamedContainer], name: &str) -> Result<usize, usize>
+    requires { AreInOrder name_cmp kept_name containers.now }
+    ensures { IsPlace name_cmp kept_name containers.now name.now result }
 {
     containers.binary_search_by(|named| named.name.as_str().cmp(&name))
 }

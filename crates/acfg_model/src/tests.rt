@@ -1,8 +1,8 @@
 ghost use Rattle.std.specs.Prelude.{IfOk};
 ghost use Rattle.acfg_model.specs.Step.{Fits};
 
-use crate::{Directory, Loaded, Machine, Reply, Request};
-use acfg_base::{ContainerName, Entry, Kind, Name, OutOfMemory, PackageName, Release};
+use crate::{Loaded, Machine, Reply, Request};
+use acfg_base::{ContainerName, Entry, Kind, Name, OutOfMemory, PackageName, Release, Text};
 use std::alloc::Global;
 use std::process::Abort;
 use std::test::Fail;
@@ -80,7 +80,7 @@ fn update(
 {
     let request = Request::Update {
         container: ContainerName::parse(alloc, container)?.expect(rt, "a container"),
-        dir: Directory::new(String::from_str(alloc, "rel")?),
+        dir: Text::new(String::from_str(alloc, "rel")?),
     };
     machine.step(alloc, &request, Some(loaded))
 }

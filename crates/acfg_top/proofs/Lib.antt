@@ -1,3 +1,3 @@
-pub mod Answered
 pub mod Lists
 pub mod OneOutcome
+pub mod Telling

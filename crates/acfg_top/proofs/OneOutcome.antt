@@ -1,5 +1,5 @@
 -- Words and files have one outcome.
-use Rattle.std.proofs.Common.{◌≡◌, ◌≢◌, ℕ, List, map, Bool, true, false, refl, sym, ◌∙◌, ap, subst, inl, inr, ◌⊎◌}
+use Rattle.std.proofs.Common.{◌≡◌, ◌≢◌, ℕ, List, [], map, Bool, true, false, refl, sym, ◌∙◌, ap, subst, inl, inr, ◌⊎◌}
 use Rattle.std.specs.Prelude.{Option, None, Some}
 use Rattle.std.specs.List.{flat_map}
 use Rattle.std.specs.Bool.{Decides}
@@ -13,7 +13,10 @@ use Rattle.acfg_text.specs.declared.plain.Plain.{Plain}
 use Rattle.acfg_text.specs.Containers.{container_read}
 use Rattle.acfg_text.proofs.Unique.{reads_unique, refuses_unique, reads_or_refuses}
 use Rattle.acfg_top.specs.Words.{Command, Flags, Rehearse, Asks}
-use Rattle.acfg_top.specs.Outcome.{Outcome, Usage, Refused, Done, Lists, flag_line, fault_words, FlagsGives, RehearseGives, CommandGives, Gives}
+use Rattle.acfg_top.specs.Commands.{CommandGives, Gives}
+use Rattle.acfg_top.specs.Flags.{Lists, flag_line, fault_words, FlagsGives}
+use Rattle.acfg_top.specs.Outcome.{Outcome, Usage, Refused, Done}
+use Rattle.acfg_top.specs.Rehearsal.{RehearseGives}
 
 -- a fact that a test decides holds or fails
 holds_or_fails : {P : Type 0} (b : Bool) → Decides b P → P ⊎ ¬ P
@@ -30,24 +33,18 @@ pub flags_gives_unique : (file : List ℕ) (found : Option (List ℕ)) (a b : Ou
 flags_gives_unique file None a b gives also = gives ∙ sym also
 flags_gives_unique file (Some bytes) a b (inl (plain, text, reads, lists, is)) (inl (other, words, reads_too, lists_too, is_too)) =
     let same = reads_unique bytes plain other reads reads_too in
-    is ∙ ap Done (one_listing other text words (subst (λ p. Lists p text) same lists) lists_too) ∙ sym is_too
+    is ∙ ap (λ t. Done t []) (one_listing other text words (subst (λ p. Lists p text) same lists) lists_too) ∙ sym is_too
 flags_gives_unique file (Some bytes) a b (inl (plain, text, reads, lists, is)) (inr (place, what, refuses, is_too)) = absurd (reads_or_refuses bytes plain place what reads refuses)
 flags_gives_unique file (Some bytes) a b (inr (place, what, refuses, is)) (inl (plain, text, reads, lists, is_too)) = absurd (reads_or_refuses bytes plain place what reads refuses)
 flags_gives_unique file (Some bytes) a b (inr (place, what, refuses, is)) (inr (other, fault, refuses_too, is_too)) =
     let same = refuses_unique bytes place other what fault refuses refuses_too in
     is ∙ (λ j. Refused file (fault_words (same.0 j) (same.1 j))) ∙ sym is_too
 
--- a command that is asked for doesn't tell the usage
-pub flags_useful : (file : List ℕ) (found : Option (List ℕ)) (a : Outcome) → FlagsGives file found a → a ≢ Usage
-flags_useful file None a gives usage = let same = sym gives ∙ usage in cc
-flags_useful file (Some bytes) a (inl (plain, text, reads, lists, is)) usage = let same = sym is ∙ usage in cc
-flags_useful file (Some bytes) a (inr (place, what, refuses, is)) usage = let same = sym is ∙ usage in cc
-
 -- `rehearse SCRIPT` has one outcome
 pub rehearse_gives_unique : (script : List ℕ) (files : Files) (found : Option (List ℕ)) (a b : Outcome) → RehearseGives script files found a → RehearseGives script files found b → a ≡ b
 rehearse_gives_unique script files None a b gives also = gives ∙ sym also
 rehearse_gives_unique script files (Some bytes) a b (text, transcript, is) (other, transcript_too, is_too) =
-    is ∙ ap Done (one_transcript files empty 1 (lines bytes) text other transcript transcript_too) ∙ sym is_too
+    is ∙ ap (λ t. Done t []) (one_transcript files empty 1 (lines bytes) text other transcript transcript_too) ∙ sym is_too
 
 -- words ask for one command
 pub asks_unique : (words : List (List ℕ)) (command other : Command) → Asks words command → Asks words other → command ≡ other
@@ -66,3 +63,8 @@ gives_unique words files a b (inl (command, asks, gives)) (inl (other, asks_too,
 gives_unique words files a b (inl (command, asks, gives)) (inr (none, is)) = absurd (none command asks)
 gives_unique words files a b (inr (none, is)) (inl (command, asks, gives)) = absurd (none command asks)
 gives_unique words files a b (inr (none, is)) (inr (never, is_too)) = is ∙ sym is_too
+
+-- the outcome of words is that of the command that they ask for
+pub gives_command : (words : List (List ℕ)) (command : Command) (files : Files) (outcome : Outcome) → Asks words command → Gives words files outcome → CommandGives command files outcome
+gives_command words command files outcome asks (inl (other, asked, gives)) = subst (λ c. CommandGives c files outcome) (asks_unique words other command asked asks) gives
+gives_command words command files outcome asks (inr (none, is)) = absurd (none command asks)

@@ -1,4 +1,6 @@
+pub mod Bodies
+pub mod Commands
+pub mod Flags
 pub mod Outcome
-pub mod Stop
-pub mod Told
+pub mod Rehearsal
 pub mod Words

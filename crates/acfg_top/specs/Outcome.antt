@@ -1,112 +1,87 @@
--- What the program answers to words and files: the outcome of each command, its status and the words said.
-use Rattle.std.specs.Prelude.{◌≡◌, ℕ, ◌⊎◌, List, [], ◌∷◌, ◌++◌, map, Option, None, Some, codes, ◌≢◌}
-use Rattle.std.specs.List.{flat_map}
-use Rattle.std.specs.List.Sorted.{IsPermutation, IsSorted}
-use Rattle.std.specs.Cmp.Lexicographic.{slice_cmp}
-use Rattle.std.specs.Ordering.{nat_cmp}
-use Rattle.std.specs.FinMap.{empty}
-use Rattle.std.specs.Fmt.{decimal}
+-- The outcome of words on files, and what a run leaves of a device where it told it, failed or was refused memory.
+use Rattle.std.specs.Prelude.{◌≡◌, ℕ, ◌⊎◌, List, [], ◌∷◌, ◌++◌, map, Contains, Some, codes}
+use Rattle.std.specs.Map.{update}
+use Rattle.std.specs.Str.{bytes_eq}
+use Rattle.acfg_base.specs.Bytes.{line_feed}
+use Rattle.acfg_device.specs.Disk.{IsSettled}
+use Rattle.acfg_device.specs.Left.{SameBut}
 use Rattle.acfg_device.specs.Panel.{Files, Rose, SaysPart}
-use Rattle.acfg_text.specs.declared.plain.Plain.{Plain}
-use Rattle.acfg_text.specs.declared.plain.PlainWhat.{PlainWhat}
-use Rattle.acfg_text.specs.declared.plain.PlainWhat.TheVariants.{MissingField, BadName, Unbuilt}
-use Rattle.acfg_text.specs.Containers.{container_read}
-use Rattle.acfg_text.specs.Plain.{Reads, Refuses}
-use Rattle.acfg_daemon.specs.Lines.{lines}
-use Rattle.acfg_daemon.specs.Transcript.{Transcript}
-use Rattle.acfg_top.specs.Words.{Command, Flags, Rehearse, Asks}
+use Rattle.acfg_device.specs.declared.panel.Panel.{Ghosts}
+
+-- files to be written, one after another, each with its bytes
+abbrev pub Writes : Type 0
+Writes = List (List ℕ × List ℕ)
 
 pub data Outcome : Type 0 where
   -- the words are of no command
   Usage : Outcome
   -- an input, and why it is refused
   Refused : List ℕ → List ℕ → Outcome
-  -- the text of the command
-  Done : List ℕ → Outcome
-
-abbrev pub line_feed : List ℕ
-line_feed = 10 ∷ []
-
--- the words said
-abbrev pub said_for : Outcome → List ℕ
-said_for Usage = codes "usage: acfg COMMAND WORD.." ++ line_feed
-said_for (Refused file what) = codes "refused " ++ file ++ codes ": " ++ what ++ line_feed
-said_for (Done text) = text
+  -- the text of the command, and the files that it writes
+  Done : List ℕ → Writes → Outcome
 
 abbrev pub status_for : Outcome → ℕ
 status_for Usage = 1
 status_for (Refused file what) = 2
-status_for (Done text) = 0
+status_for (Done text writes) = 0
 
--- a fault and its place, as they are printed
-abbrev pub what_words : PlainWhat → List ℕ
-what_words MissingField = codes "missing-field"
-what_words BadName = codes "bad-name"
-what_words Unbuilt = codes "unbuilt"
+-- the words that are said
+abbrev pub said_for : Outcome → List ℕ
+said_for Usage = codes "usage: acfg COMMAND WORD.." ++ line_feed ∷ []
+said_for (Refused file what) = codes "refused " ++ file ++ codes ": " ++ what ++ line_feed ∷ []
+said_for (Done text writes) = text
 
-abbrev pub fault_words : ℕ → PlainWhat → List ℕ
-fault_words place what = what_words what ++ codes " at " ++ decimal place
+abbrev pub writes_of : Outcome → Writes
+writes_of Usage = []
+writes_of (Refused file what) = []
+writes_of (Done text writes) = writes
 
--- `PACKAGE.NAME [CONTAINER]: READ_WRITE + DISABLED`
-abbrev pub flag_line : List ℕ → List ℕ → List ℕ → List ℕ
-flag_line package_name container name = package_name ++ codes "." ++ name ++ codes " [" ++ container ++ codes "]: READ_WRITE + DISABLED" ++ line_feed
+-- the files once these ones are written
+abbrev pub written : Writes → Files → Files
+written [] files = files
+written (write ∷ writes) files = written writes (update bytes_eq files write.0 (Some write.1))
 
--- one line a flag, in the order of their names' bytes
-pub record Lists (plain : Plain) (text : List ℕ) : Type 0 where
-  pub names : List (List ℕ)
-  pub same : IsPermutation (map (λ flag. flag.name) plain.flags) names
-  pub rising : IsSorted (slice_cmp nat_cmp) names
-  pub lines : text ≡ flat_map (flag_line plain.package (container_read plain.container)) names
+-- the file is one that the command writes
+abbrev pub IsOutput : Outcome → List ℕ → Type 0
+IsOutput outcome name = Contains (map (λ write. write.0) (writes_of outcome)) name
 
--- the outcome of `flags FILE` for what is at FILE
-abbrev pub FlagsGives : List ℕ → Option (List ℕ) → Outcome → Type 0
-FlagsGives file None outcome = outcome ≡ Refused file (codes "missing")
-FlagsGives file (Some bytes) outcome =
-    ((plain : Plain) × (text : List ℕ) × Reads bytes plain × Lists plain text × (outcome ≡ Done text))
-    ⊎ ((place : ℕ) × (what : PlainWhat) × Refuses bytes place what × (outcome ≡ Refused file (fault_words place what)))
+module _ {P : Type 0} (panel : Ghosts P) (outcome : Outcome) where
+  -- all is done that an outcome asks for: its words are said, its files are written, and a settled device is settled
+  pub record IsDone (before after : P) : Type 0 where
+    pub said : panel.said after ≡ panel.said before ++ said_for outcome
+    pub files : panel.files after ≡ written (writes_of outcome) (panel.files before)
+    pub settled : IsSettled (panel.account before).now → IsSettled (panel.account after).now
 
--- The outcome of `rehearse SCRIPT` for what is at SCRIPT: the transcript from the machine without containers.
-abbrev pub RehearseGives : List ℕ → Files → Option (List ℕ) → Outcome → Type 0
-RehearseGives script files None outcome = outcome ≡ Refused script (codes "missing")
-RehearseGives script files (Some bytes) outcome = (text : List ℕ) × Transcript files empty 1 (lines bytes) text × (outcome ≡ Done text)
+  -- it was broken off: a first part of its words is said, and no file differs but those that it writes
+  pub record IsBroken (before after : P) : Type 0 where
+    pub said : SaysPart (panel.said before) (panel.said after) (said_for outcome)
+    pub files : SameBut (IsOutput outcome) (panel.files before) (panel.files after)
 
-abbrev pub CommandGives : Command → Files → Outcome → Type 0
-CommandGives (Flags file) files outcome = FlagsGives file (files file) outcome
-CommandGives (Rehearse script) files outcome = RehearseGives script files (files script) outcome
+  -- a run that ends with its outcome's status
+  pub record Ends (status : ℕ) (before after : P) : Type 0 where
+    pub is : status ≡ status_for outcome
+    pub done : IsDone before after
 
--- The outcome of words on files: that of the command they ask for, and usage where they ask for none.
-abbrev pub Gives : List (List ℕ) → Files → Outcome → Type 0
-Gives words files outcome =
-    ((command : Command) × Asks words command × CommandGives command files outcome)
-    ⊎ (((command : Command) → Asks words command → ⊥) × (outcome ≡ Usage))
+  -- a run that fails with the outside
+  pub record Fails (status : ℕ) (before after : P) : Type 0 where
+    pub is : status ≡ 4
+    pub rose : Rose (panel.faults before) (panel.faults after)
+    pub broken : IsBroken before after
 
--- What a call answers that says the words of a status: the status, with all of them said, or 4, with a part of
--- them said and the outside at fault.
-abbrev pub Says : ℕ → List ℕ → ℕ → ℕ → ℕ → List ℕ → List ℕ → Type 0
-Says status words result faults_before faults_after said_before said_after =
-    ((result ≡ status) × (said_after ≡ said_before ++ words))
-    ⊎ ((result ≡ 4) × Rose faults_before faults_after × SaysPart said_before said_after words)
+  -- a run that was refused memory
+  pub record Starves (status : ℕ) (before after : P) : Type 0 where
+    pub is : status ≡ 5
+    pub broken : IsBroken before after
 
--- What a run answers for its outcome: the outcome is told, or the outside failed, or memory was refused, with a part
--- of the words said; usage needs no memory.
-abbrev pub Answers : Outcome → ℕ → ℕ → ℕ → List ℕ → List ℕ → Type 0
-Answers outcome result faults_before faults_after said_before said_after =
-    Says (status_for outcome) (said_for outcome) result faults_before faults_after said_before said_after
-    ⊎ ((result ≡ 5) × (outcome ≢ Usage) × SaysPart said_before said_after (said_for outcome))
+  -- what a run answers for its outcome
+  abbrev pub Answers : ℕ → P → P → Type 0
+  Answers status before after = Ends status before after ⊎ Fails status before after ⊎ Starves status before after
 
--- a status that isn't of a failure is that of an outcome, all of whose words were said
-abbrev pub IsTold : (Outcome → Type 0) → ℕ → List ℕ → List ℕ → Type 0
-IsTold gives result said_before said_after =
-    result ≢ 4 → result ≢ 5 → (outcome : Outcome) × gives outcome × (result ≡ status_for outcome) × (said_after ≡ said_before ++ said_for outcome)
-
--- whatever the outcome is, the answer is its own
-abbrev pub IsExact : (Outcome → Type 0) → ℕ → ℕ → ℕ → List ℕ → List ℕ → Type 0
-IsExact gives result faults_before faults_after said_before said_after =
-    (outcome : Outcome) → gives outcome → Answers outcome result faults_before faults_after said_before said_after
-
--- the statuses of a command
-abbrev pub IsCommandStatus : ℕ → Type 0
-IsCommandStatus status = (status ≡ 0) ⊎ (status ≡ 2) ⊎ (status ≡ 4) ⊎ (status ≡ 5)
+-- a run that told its outcome, one of those that are given
+pub record Tells {P : Type 0} (panel : Ghosts P) (gives : Outcome → Type 0) (status : ℕ) (before after : P) : Type 0 where
+  pub outcome : Outcome
+  pub given : gives outcome
+  pub ends : Ends panel outcome status before after
 
 -- the statuses of a run
 abbrev pub IsStatus : ℕ → Type 0

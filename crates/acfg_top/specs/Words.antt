@@ -1,17 +1,12 @@
 -- The command words and what they ask for.
-use Rattle.std.specs.Prelude.{◌≡◌, ◌≢◌, ℕ, ◌<◌, ◌≤◌, List, [], ◌∷◌, length, slice_index, All, codes}
-use Rattle.acfg_top.specs.declared.words as source
+use Rattle.std.specs.Prelude.{◌≡◌, ◌≢◌, ℕ, List, [], ◌∷◌, slice_index, codes}
+use Rattle.acfg_base.specs.Bytes.{dash}
+use Rattle.acfg_base.specs.Paths.{IsPath}
 
--- a word of any command: not empty, without `-` in front, and without bytes below 0x20
-pub record IsWord (word : List ℕ) : Type 0 where
-  pub some : 0 < length word
-  pub plain : slice_index word 0 ≢ 45
-  pub printable : All (λ byte. 0x20 ≤ byte) word
-
--- a path among the words: of at most 1,024 bytes
-pub record IsPath (text : List ℕ) : Type 0 where
-  pub word : IsWord text
-  pub bound : length text ≤ 1024
+-- a path as a word of a command: without `-` in front
+pub record IsPathWord (word : List ℕ) : Type 0 where
+  pub path : IsPath word
+  pub plain : slice_index word 0 ≢ dash
 
 -- what words may ask for
 pub data Command : Type 0 where
@@ -21,9 +16,5 @@ pub data Command : Type 0 where
   Rehearse : List ℕ → Command
 
 abbrev pub Asks : List (List ℕ) → Command → Type 0
-Asks words (Flags file) = (words ≡ codes "flags" ∷ file ∷ []) × IsPath file
-Asks words (Rehearse script) = (words ≡ codes "rehearse" ∷ script ∷ []) × IsPath script
-
-abbrev pub command_of : source.Command.Command → Command
-command_of (source.Command.TheVariants.Flags file) = Flags file.now
-command_of (source.Command.TheVariants.Rehearse script) = Rehearse script.now
+Asks words (Flags file) = (words ≡ codes "flags" ∷ file ∷ []) × IsPathWord file
+Asks words (Rehearse script) = (words ≡ codes "rehearse" ∷ script ∷ []) × IsPathWord script

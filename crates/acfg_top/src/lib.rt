@@ -1,9 +1,9 @@
 //! The program: words and files in, words said and a status out.
 #![tactic(auto)]
 
+mod ending;
 mod flags;
 mod rehearsal;
-mod stop;
 #[cfg(test)]
 mod tests;
 mod told;

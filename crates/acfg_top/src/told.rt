@@ -1,21 +1,21 @@
-//! What a command tells: its status and its words.
+//! What a command has to tell, and how it is said.
 
-ghost use Rattle.std.specs.Prelude.{◌≡◌, ◌≢◌, ◌≤◌, ◌⊎◌, string_bytes, IfOk, IsTrue, MatchResult};
-ghost use Rattle.acfg_device.specs.Panel.{Rose};
-ghost use Rattle.acfg_top.specs.Outcome.{Refused, Says};
-ghost use Rattle.acfg_top.specs.Stop.{status_of};
-ghost use Rattle.acfg_top.specs.Told.{refusal_words, Tells};
+ghost use Rattle.std.specs.Prelude.{◌≡◌, ◌++◌, string_bytes, IfErr, IfOk, IsErr, IsTrue, OnErr, OnOk};
+ghost use Rattle.acfg_device.specs.Only.{OnlySays};
+ghost use Rattle.acfg_device.specs.Panel.{SaysPart};
+ghost use Rattle.acfg_top.specs.Bodies.{refusal_words, IsOf};
+ghost use Rattle.acfg_top.specs.Outcome.{Refused};
 
-use crate::stop::Stop;
+use crate::ending::{Ending, Stop};
 use acfg_device::Panel;
 use acfg_text::PlainWhat;
 use std::alloc::{AllocError, Global};
 use std::fmt;
 
-/// What a command tells: its status, and the words to say.
+/// What a command has to tell: how it ends, and the words to say.
 #[derive(Debug, Drop)]
 pub struct Told {
-    pub status: u8,
+    pub ending: Ending,
     pub text: String,
 }
 
@@ -30,7 +30,7 @@ pub enum Refusal {
 
 impl fmt::Display for Refusal {
     ghost use Rattle.std.specs.Prelude.{Some};
-    ghost use Rattle.acfg_top.specs.Told.{refusal_words};
+    ghost use Rattle.acfg_top.specs.Bodies.{refusal_words};
 
     ghost output = { λ refusal. Some (refusal_words refusal) };
 
@@ -46,39 +46,33 @@ impl fmt::Display for Refusal {
 
 /// The refusal of a file.
 pub fn refused(alloc: Global, file: &str, refusal: Refusal) -> Result<Told, AllocError>
-    ensures { IfOk result (Tells (Refused file.now (refusal_words refusal))) }
+    ensures { IfOk result (IsOf (Refused file.now (refusal_words refusal))) }
 {
     Ok(Told {
-        status: 2,
+        ending: Ending::Refused,
         text: format!(in alloc; "refused {file}: {refusal}\n")?,
     })
 }
 
-/// Says what a command tells, and answers its status; 4 and 5 where it told nothing.
-pub fn tell<P: Panel>(told: Result<Told, Stop>, panel: &mut P) -> u8
-    ensures told { IsTrue P.tells → MatchResult told (λ told. Says told.status (string_bytes told.text) result (P.faults panel.old) (P.faults panel.new) (P.said panel.old) (P.said panel.new)) (λ _. P.said panel.new ≡ P.said panel.old) }
-    ensures status { MatchResult told (λ told. (result ≡ told.status) ⊎ (result ≡ 4)) (λ stop. result ≡ status_of stop) }
-    ensures files { P.files panel.new ≡ P.files panel.old }
-    ensures count { P.faults panel.old ≤ P.faults panel.new }
-    ensures failed { IfOk told (λ told. told.status ≢ 4 → result ≡ 4 → Rose (P.faults panel.old) (P.faults panel.new)) }
+/// Says what a command has to tell, and answers how it ends.
+pub fn tell<P: Panel>(panel: &mut P, told: &Told) -> Result<Ending, Stop>
+    ensures ending { IfOk result (λ ending. ending ≡ told.now.ending) }
+    ensures ok { IsTrue P.tells → OnOk result (P.said panel.new ≡ P.said panel.old ++ string_bytes told.now.text) }
+    ensures err { IsTrue P.tells → OnErr result (SaysPart (P.said panel.old) (P.said panel.new) (string_bytes told.now.text)) }
+    ensures stop { IfErr result (λ stop. stop ≡ Stop.Failed) }
+    ensures says { OnlySays P.Panel panel.old panel.new (result ≡ Err Stop.Failed) }
 {
-    match told {
-        Ok(told) => said(panel, told.status, told.text.as_str()),
-        Err(Stop::Failed) => 4,
-        Err(Stop::OutOfMemory) => 5,
-    }
+    say(panel, told.text.as_str())?;
+    Ok(told.ending)
 }
 
-/// Says the words of a status, and answers it; 4 where they can't be said.
-pub fn said<P: Panel>(panel: &mut P, status: u8, words: &str) -> u8
-    ensures told { IsTrue P.tells → Says status words.now result (P.faults panel.old) (P.faults panel.new) (P.said panel.old) (P.said panel.new) }
-    ensures files { P.files panel.new ≡ P.files panel.old }
-    ensures status { (result ≡ status) ⊎ (result ≡ 4) }
-    ensures count { P.faults panel.old ≤ P.faults panel.new }
-    ensures failed { status ≢ 4 → result ≡ 4 → Rose (P.faults panel.old) (P.faults panel.new) }
+/// Says words.
+pub fn say<P: Panel>(panel: &mut P, words: &str) -> Result<(), Stop>
+    ensures ok { IsTrue P.tells → OnOk result (P.said panel.new ≡ P.said panel.old ++ words.now) }
+    ensures err { IsTrue P.tells → OnErr result (SaysPart (P.said panel.old) (P.said panel.new) words.now) }
+    ensures stop { IfErr result (λ stop. stop ≡ Stop.Failed) }
+    ensures says { OnlySays P.Panel panel.old panel.new (result ≡ Err Stop.Failed) }
 {
-    match panel.say(words.as_bytes()) {
-        Ok(()) => status,
-        Err(_) => 4,
-    }
+    panel.say(words.as_bytes())?;
+    Ok(())
 }

@@ -1,13 +1,17 @@
 //! The top call.
 
-ghost use Rattle.std.specs.Prelude.{◌≡◌, ◌≤◌, ◌⊎◌, ◌≢◌, ◌++◌, ℕ, List, IsTrue, IfOk, map, string_bytes};
+ghost use Rattle.std.specs.Prelude.{◌≡◌, ◌≤◌, ◌⊎◌, ◌≢◌, ℕ, List, IsTrue, IfOk, OnErr, map, string_bytes};
+ghost use Rattle.acfg_device.specs.Only.{OnlySays};
 ghost use Rattle.acfg_device.specs.Panel.{Files, Rose};
-ghost use Rattle.acfg_top.specs.Outcome.{Outcome, Gives, CommandGives, IsTold, IsExact, IsStatus, IsCommandStatus};
-ghost use Rattle.acfg_top.specs.Words.{Asks, command_of};
+ghost use Rattle.acfg_top.specs.Bodies.{command_of, status_of, Comes};
+ghost use Rattle.acfg_top.specs.Commands.{CommandGives, Gives, Only};
+ghost use Rattle.acfg_top.specs.Outcome.{Answers, IsBroken, IsDone, IsStatus, Outcome, Tells, Usage};
+ghost use Rattle.acfg_top.specs.Words.{Asks};
 
+use crate::ending::{Ending, Stop};
 use crate::flags::flags;
 use crate::rehearsal::rehearse_script;
-use crate::told::said;
+use crate::told::say;
 use crate::words::{Command, read_command};
 use acfg_device::{Device, Panel};
 use std::alloc::Global;
@@ -24,41 +28,73 @@ const USAGE: &str = "usage: acfg COMMAND WORD..\n";
 /// | 4 | nothing more | the outside failed |
 /// | 5 | nothing more | memory was refused |
 pub fn run<D: Device>(alloc: Global, words: &[String], dev: &mut D) -> u8
-    // Where the device tells its files and words: a told status is that of the words' and files' outcome, and its words
-    // were said. Whatever the outcome is, the answer is its own.
-    ensures told { IsTrue D.tells → IsTold (Gives (map string_bytes words.now) (D.files dev.old)) result (D.said dev.old) (D.said dev.new) }
-    ensures exact { IsTrue D.tells → IsExact (Gives (map string_bytes words.now) (D.files dev.old)) result (D.faults dev.old) (D.faults dev.new) (D.said dev.old) (D.said dev.new) }
-    ensures files { D.files dev.new ≡ D.files dev.old }
+    // Where the device tells its files and words: a status that isn't of a failure is that of the words' and files'
+    // outcome, and all is done that it asks for. Whatever the outcome is, the answer is its own.
+    ensures told { IsTrue D.tells → result ≢ 4 → result ≢ 5
+        → Tells D.Panel (Gives (map string_bytes words.now) (D.files dev.old)) result dev.old dev.new }
+    ensures exact { IsTrue D.tells → (outcome : Outcome) → Gives (map string_bytes words.now) (D.files dev.old) outcome
+        → Answers D.Panel outcome result dev.old dev.new }
 
     // Of every device.
+    ensures only { (command : _) → Asks (map string_bytes words.now) command
+        → Only D.Panel command dev.old dev.new (result ≡ 4) }
+    ensures only_usage { ((command : _) → Asks (map string_bytes words.now) command → ⊥)
+        → OnlySays D.Panel dev.old dev.new (result ≡ 4) }
     ensures statuses { IsStatus result }
     ensures usage { ((command : _) → Asks (map string_bytes words.now) command → ⊥) → (result ≡ 1) ⊎ (result ≡ 4) }
     ensures command { (command : _) → Asks (map string_bytes words.now) command → result ≢ 1 }
     ensures count { D.faults dev.old ≤ D.faults dev.new }
     ensures failed { result ≡ 4 → Rose (D.faults dev.old) (D.faults dev.new) }
 {
-    let Some(command) = read_command(words) else {
-        return said(dev, 1, USAGE);
-    };
-    carry_out(alloc, command, dev)
+    match read_command(words) {
+        Some(command) => status(carry_out(alloc, command, dev)),
+        None => tell_usage(dev),
+    }
 }
 
-// Does what a command asks for, and answers its status.
-fn carry_out<P: Panel>(alloc: Global, command: Command<'_>, panel: &mut P) -> u8
-    ensures told { IsTrue P.tells → IsTold (CommandGives (command_of command.entry) (P.files panel.old)) result (P.said panel.old) (P.said panel.new) }
-    ensures exact { IsTrue P.tells → IsExact (CommandGives (command_of command.entry) (P.files panel.old)) result (P.faults panel.old) (P.faults panel.new) (P.said panel.old) (P.said panel.new) }
-    ensures status { IsCommandStatus result }
-    ensures files { P.files panel.new ≡ P.files panel.old }
-    ensures count { P.faults panel.old ≤ P.faults panel.new }
-    ensures failed { result ≡ 4 → Rose (P.faults panel.old) (P.faults panel.new) }
+// The status of a command that ends so.
+fn status(answer: Result<Ending, Stop>) -> u8
+    ensures { result ≡ status_of answer }
+{
+    match answer {
+        Ok(Ending::Done) => 0,
+        Ok(Ending::Refused) => 2,
+        Err(Stop::Failed) => 4,
+        Err(Stop::OutOfMemory) => 5,
+    }
+}
+
+// Tells the usage, and answers its status.
+fn tell_usage<D: Device>(dev: &mut D) -> u8
+    ensures status { (result ≡ 1) ⊎ (result ≡ 4) }
+    ensures told { IsTrue D.tells → result ≡ 1 → IsDone D.Panel Usage dev.old dev.new }
+    ensures broken { IsTrue D.tells → result ≡ 4 → IsBroken D.Panel Usage dev.old dev.new }
+    ensures says { OnlySays D.Panel dev.old dev.new (result ≡ 4) }
+{
+    match say(dev, USAGE) {
+        Ok(()) => 1,
+        Err(_) => 4,
+    }
+}
+
+// Does what a command asks for.
+fn carry_out<D: Device>(alloc: Global, command: Command<'_>, dev: &mut D) -> Result<Ending, Stop>
+    ensures told { IsTrue D.tells → IfOk result (λ ending.
+        Comes D.Panel (CommandGives (command_of command.entry) (D.files dev.old)) ending dev.old dev.new) }
+    ensures broken { IsTrue D.tells → OnErr result ((outcome : Outcome)
+        → CommandGives (command_of command.entry) (D.files dev.old) outcome → IsBroken D.Panel outcome dev.old dev.new) }
+    ensures only { Only D.Panel (command_of command.entry) dev.old dev.new (result ≡ Err Stop.Failed) }
+    ensures count { D.faults dev.old ≤ D.faults dev.new }
+    ensures failed { result ≡ Err Stop.Failed → Rose (D.faults dev.old) (D.faults dev.new) }
 {
     match command {
-        Command::Flags(file) => flags(alloc, file, panel),
-        Command::Rehearse(script) => rehearse_script(alloc, script, panel),
+        Command::Flags(file) => flags(alloc, file, dev),
+        Command::Rehearse(script) => rehearse_script(alloc, script, dev),
     }
 }
 
 /// Words and files have one outcome.
 pub fn one_outcome()
-    ensures { (words : List (List ℕ)) (files : Files) (outcome other : Outcome) → Gives words files outcome → Gives words files other → outcome ≡ other }
+    ensures { (words : List (List ℕ)) (files : Files) (outcome other : Outcome)
+        → Gives words files outcome → Gives words files other → outcome ≡ other }
 {}

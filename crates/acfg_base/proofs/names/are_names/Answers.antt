@@ -1,5 +1,5 @@
 use Rattle.std.proofs.Common.{◌≡◌, arith, rules, length, get_or, sym, subst, ◌∙◌, ap}
-use Rattle.acfg_base.specs.Names.{MayFollow}
+use Rattle.acfg_base.specs.Bodies.{MayFollow}
 use Rattle.acfg_base.proofs.Neighbours.{before, FollowBelow, are_names, follow_below, ends_in_name}
 use Rattle.acfg_base.proofs.names.are_names.Goals as goal
 

@@ -1,7 +1,7 @@
 use Rattle.std.proofs.Common.{◌≡◌, sym, subst, true, false}
 use Rattle.std.specs.Str.{IsUtf8}
 use Rattle.std.specs.Str.Parse.{ParsesUnsigned}
-use Rattle.acfg_daemon.specs.Lines.{BeginsPlainly}
+use Rattle.acfg_daemon.specs.Bodies.{BeginsPlainly}
 use Rattle.acfg_daemon.proofs.Clients.{decimal_plain, decimal_text, parsed_finds}
 use Rattle.acfg_daemon.proofs.lines.client_number.Goals as goal
 

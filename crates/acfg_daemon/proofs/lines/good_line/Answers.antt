@@ -1,7 +1,8 @@
 use Rattle.std.proofs.Common.{◌∙◌, subst, ◌+◌, ◌-◌, length, drop, arith}
 use Rattle.std.proofs.lemmas.List.{take_all, length-drop}
-use Rattle.acfg_daemon.specs.Requests.{space}
-use Rattle.acfg_daemon.specs.Lines.{EndsIn, backslash}
+use Rattle.acfg_base.specs.Bytes.{space}
+use Rattle.acfg_base.specs.Bytes.{backslash}
+use Rattle.acfg_daemon.specs.Lines.{EndsIn}
 use Rattle.acfg_daemon.proofs.Cuts.{first_cut, nowhere}
 use Rattle.acfg_daemon.proofs.Clients.{no_space, good_parts}
 use Rattle.acfg_daemon.proofs.lines.good_line.Goals as goal

@@ -1,7 +1,7 @@
 use Rattle.std.proofs.Common.{[], ◌∷◌, take, length, ◌-◌}
 use Rattle.std.proofs.lemmas.Slice.Eq.{ends_is}
 use Rattle.std.proofs.lemmas.Bool.Decides.{Decides-eqb}
-use Rattle.acfg_daemon.specs.Lines.{backslash}
+use Rattle.acfg_base.specs.Bytes.{backslash}
 use Rattle.acfg_daemon.proofs.lines.is_continued.Goals as goal
 
 pub returns : goal.returns

@@ -1,4 +1,6 @@
-use Rattle.std.proofs.Common.{refl}
+use Rattle.std.proofs.Common.{refl, ap, ◌∙◌}
+use Rattle.acfg_model.specs.declared.requests.Reply.TheVariants.{Refused}
+use Rattle.acfg_daemon.specs.Replies.{reply_line}
 use Rattle.acfg_daemon.specs.Lines.{Complete, TooLong, BadLine}
 use Rattle.acfg_daemon.proofs.rehearsal.answer.Goals as goal
 
@@ -6,7 +8,7 @@ pub returns-in_ok-bad_line_text-in-BadLine-clause-told : goal.returns-in_ok-bad_
 returns-in_ok-bad_line_text-in-BadLine-clause-told g c tells = (BadLine c.args.number, c.in-BadLine.ensures c.args.number, (refl, c.in_ok-bad_line_text-in-BadLine.ensures))
 
 pub returns-in_ok-reply_text-in-TooLong-clause-told : goal.returns-in_ok-reply_text-in-TooLong-clause-told
-returns-in_ok-reply_text-in-TooLong-clause-told g c tells = (TooLong c.in-TooLong.client, c.in-TooLong.ensures c.args.number, (refl, c.in_ok-reply_text-in-TooLong.ensures))
+returns-in_ok-reply_text-in-TooLong-clause-told g c tells = (TooLong c.in-TooLong.client, c.in-TooLong.ensures c.args.number, (refl, c.in_ok-reply_text-in-TooLong.ensures ∙ ap (λ n. reply_line c.in-TooLong.client (Refused n)) c.number.ensures))
 
 pub returns-in_ok-reply_text-in-Complete-clause-told : goal.returns-in_ok-reply_text-in-Complete-clause-told
 returns-in_ok-reply_text-in-Complete-clause-told g c tells = (

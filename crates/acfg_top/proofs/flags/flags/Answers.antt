@@ -1,8 +1,14 @@
-use Rattle.acfg_top.proofs.Answered.{tell_exact}
-use Rattle.acfg_top.proofs.OneOutcome.{flags_gives_unique, flags_useful}
+use Rattle.std.proofs.Common.{string_bytes, ap, ◌∙◌}
+use Rattle.acfg_top.specs.Outcome.{said_for}
+use Rattle.acfg_top.proofs.OneOutcome.{flags_gives_unique}
+use Rattle.std.proofs.lemmas.Result.{on_err_weaker}
+use Rattle.acfg_top.proofs.Telling.{told_broken}
 use Rattle.acfg_top.proofs.flags.flags.Goals as goal
 
-pub returns-clause-exact : goal.returns-clause-exact
-returns-clause-exact g c = λ tells.
-    let read = c.read_flags-told.ensures in
-    tell_exact _ (flags_gives_unique _ _) (flags_useful _ _) c.read_flags-told.result _ _ _ _ _ _ _ (read.told tells) read.count c.tell.ensures.count read.failed read.said (c.tell.ensures.told tells) c.tell.ensures.status
+pub returns-clause-broken : goal.returns-clause-broken
+returns-clause-broken g c = λ tells.
+    let read = c.in_ok-told.ensures.reads in
+    let mine = c.in_ok-told.ensures.told tells in
+    on_err_weaker c.tell.result (λ part outcome given.
+    told_broken g.P.Panel read.files read.said outcome (string_bytes c.in_ok-told.told.text)
+    (mine.2.text ∙ ap said_for (flags_gives_unique _ _ mine.0 outcome mine.1 given)) c.tell.ensures.says part) (c.tell.ensures.err tells)

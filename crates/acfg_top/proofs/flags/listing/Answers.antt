@@ -4,7 +4,7 @@ use Rattle.std.specs.List.Sorted.{IsPermutation}
 use Rattle.std.proofs.lemmas.List.{flat_map_more, take_more}
 use Rattle.std.proofs.lemmas.List.Folds.{flat_map-map}
 use Rattle.acfg_text.specs.Containers.{container_read}
-use Rattle.acfg_top.specs.Outcome.{flag_line}
+use Rattle.acfg_top.specs.Flags.{flag_line}
 use Rattle.acfg_top.proofs.flags.listing.Goals as goal
 
 abbrev none : Bor (List ℕ)

@@ -1,6 +1,7 @@
 use Rattle.std.proofs.Common.{subst, true≢false, refl}
 use Rattle.acfg_base.specs.Places.{AreInOrder}
-use Rattle.acfg_base.specs.Release.{key_cmp, key_of, SomeStepDown}
+use Rattle.acfg_base.specs.Release.{key_cmp, key_of}
+use Rattle.acfg_base.specs.Bodies.{SomeStepDown}
 use Rattle.acfg_base.proofs.Keys.{no_twins, twins_found, release_permuted}
 use Rattle.acfg_base.proofs.releases.Release.new.Goals as goal
 

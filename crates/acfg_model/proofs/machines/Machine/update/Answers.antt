@@ -2,5 +2,5 @@ use Rattle.std.proofs.Common.{subst}
 use Rattle.acfg_model.specs.Step.{Fits}
 use Rattle.acfg_model.proofs.machines.Machine.update.Goals as goal
 
-pub store-requires : goal.store-requires
-store-requires c = subst Fits c.in-Some-Release.field-0-is (c.requires c.in-Some-Release.field-0 c.in-Some-Release.is)
+pub update_release-requires : goal.update_release-requires
+update_release-requires c = subst Fits c.in-Some-Release.field-0-is (c.requires c.in-Some-Release.field-0 c.in-Some-Release.is)

@@ -1,0 +1,7 @@
+mod Committing
+pub mod Files
+mod Putting
+mod Replacing
+mod Settled
+mod Speaking
+mod Writing

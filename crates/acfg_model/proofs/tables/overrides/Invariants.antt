@@ -1,6 +1,0 @@
-use Rattle.std.proofs.Common.{◌≡◌, take}
-use Rattle.acfg_model.proofs.Shown.{listed}
-use Rattle.acfg_model.proofs.tables.overrides.Given as goal
-
-abbrev pub invariant-loop-row : goal.invariant-loop-row
-invariant-loop-row l = l.list.items ≡ listed l.layer (take l.row-index l.rows)

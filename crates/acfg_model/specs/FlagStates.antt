@@ -1,0 +1,99 @@
+-- Private: how a container is kept, as the states of the flags of its release, in order.
+use Rattle.std.specs.Prelude.{◌≡◌, ℕ, Bool, List, Option, None, Some, Result, Ok, Err, MatchResult}
+use Rattle.std.specs.Prelude.{if◌then◌else◌, is_some, unwrap_or, option_and_then}
+use Rattle.std.specs.FinMap.{get}
+use Rattle.acfg_base.specs.Places.{AreInOrder, StandsAt, row_at, map_of, map_where}
+use Rattle.acfg_base.specs.declared.releases.Entry.{Entry}
+use Rattle.acfg_base.specs.Release.{Key, key_cmp, key_of, facts_of, ReleaseMap}
+use Rattle.acfg_model.specs.declared.views.Booted.{Booted}
+use Rattle.acfg_model.specs.declared.refusals.Refusal.{Refusal}
+use Rattle.acfg_model.specs.declared.views.Override.{Override}
+use Rattle.acfg_model.specs.declared.containers.Setter.{Setter}
+use Rattle.acfg_model.specs.declared.containers.Setter.TheVariants.{Server, Local}
+use Rattle.acfg_model.specs.declared.containers.FlagState.{FlagState}
+use Rattle.acfg_model.specs.State.{OverrideMap, BootMap, Container, IsValidContainer, is_read_write}
+use Rattle.acfg_model.specs.declared.changes.Change.{Change}
+use Rattle.acfg_model.specs.declared.changes.Change.TheVariants.{SetServer, SetLocal, UnsetLocal}
+use Rattle.acfg_model.specs.Step.{change_refusal, set_refusal, unset_refusal}
+
+abbrev pub row_key : FlagState → Key
+row_key row = key_of row.entry
+
+abbrev pub release_in : List FlagState → ReleaseMap
+release_in rows = map_of key_cmp row_key rows (λ row. facts_of row.entry)
+
+abbrev pub server_in : List FlagState → OverrideMap
+server_in rows = map_where key_cmp row_key rows (λ row. row.server)
+
+abbrev pub local_in : List FlagState → OverrideMap
+local_in rows = map_where key_cmp row_key rows (λ row. row.local)
+
+abbrev pub container_in : List ℕ → List FlagState → Option BootMap → Container
+container_in digest rows boot =
+    record { digest = digest; release = release_in rows; server = server_in rows; local = local_in rows; boot = boot }
+
+-- a row's override of one kind
+abbrev pub override_in : Setter → FlagState → Option Bool
+override_in Server row = row.server
+override_in Local row = row.local
+
+abbrev pub override_row : FlagState → Bool → Override
+override_row row value = record { «package» = row.entry.package; flag = row.entry.flag; value = value }
+
+abbrev pub entry_in : FlagState → Entry
+entry_in row = row.entry
+
+-- a row's pick, and its notes
+abbrev pub booted_row : FlagState → Booted
+booted_row row = record {
+  entry = record row.entry { value = unwrap_or row.local (unwrap_or row.server row.entry.value) };
+  server = is_some row.server;
+  local = is_some row.local;
+}
+
+-- an entry with the overrides that it had among other rows, where it is read-write
+abbrev pub carried_row : List FlagState → Entry → FlagState
+carried_row old entry =
+    let row = if is_read_write entry.kind then row_at key_cmp row_key old (key_of entry) else None in
+    record {
+      entry = entry;
+      server = option_and_then (λ (r : FlagState). r.server) row;
+      local = option_and_then (λ (r : FlagState). r.local) row;
+    }
+
+-- the rows are in order, and the container that they make is valid
+pub record IsLawful (rows : List FlagState) (container : Container) : Type 0 where
+  pub order : AreInOrder key_cmp row_key rows
+  pub valid : IsValidContainer container
+
+-- a change of a container: what it leaves, or the refusal, which leaves it as it was
+abbrev pub IsOutcome : {A : Type 0} → Result Container Refusal → Result A Refusal → Container → Container → Type 0
+IsOutcome outcome (Ok done) old new = outcome ≡ Ok new
+IsOutcome outcome (Err refusal) old new = (outcome ≡ Err refusal) × (new ≡ old)
+
+-- what a search for a flag answers: its place, or why there is none to change
+abbrev pub IsPlaceUnless : List FlagState → Key → Option Refusal → Result ℕ Refusal → Type 0
+IsPlaceUnless rows key refusal r =
+    MatchResult r (λ at. StandsAt key_cmp row_key rows key at × (refusal ≡ None)) (λ why. refusal ≡ Some why)
+
+abbrev pub IsSettable : List FlagState → Key → Result ℕ Refusal → Type 0
+IsSettable rows key r = IsPlaceUnless rows key (set_refusal (get (release_in rows) key)) r
+
+abbrev pub IsUnsettable : List FlagState → Key → Result ℕ Refusal → Type 0
+IsUnsettable rows key r = IsPlaceUnless rows key (unset_refusal (get (release_in rows) key) (get (local_in rows) key)) r
+
+-- the flag that a change is of
+abbrev pub changed_key : Change → Key
+changed_key (SetServer key value) = key
+changed_key (SetLocal key value) = key
+changed_key (UnsetLocal key) = key
+
+abbrev pub IsChangeable : List FlagState → Change → Result ℕ Refusal → Type 0
+IsChangeable rows change r =
+    IsPlaceUnless rows (changed_key change) (change_refusal (release_in rows) (local_in rows) change) r
+
+-- the state of a flag with a change
+abbrev pub changed_row : Change → FlagState → FlagState
+changed_row (SetServer key value) row = record row { server = Some value }
+changed_row (SetLocal key value) row = record row { local = Some value }
+changed_row (UnsetLocal key) row = record row { local = None }

@@ -1,0 +1,14 @@
+use Rattle.std.proofs.Common.{map, string_bytes}
+use Rattle.acfg_top.specs.Bodies.{command_of}
+use Rattle.acfg_top.specs.Commands.{CommandGives}
+use Rattle.acfg_top.proofs.OneOutcome.{command_gives_unique, gives_command}
+use Rattle.acfg_top.proofs.Telling.{answers_exact}
+use Rattle.acfg_top.proofs.top.run.Goals as goal
+
+pub returns-in-Some-clause-exact : goal.returns-in-Some-clause-exact
+returns-in-Some-clause-exact g c = λ tells outcome gives.
+    let command = command_of c.in-Some.command in
+    let files = g.D.Panel.files c.args.dev.now in
+    answers_exact g.D.Panel (CommandGives command files) (command_gives_unique command files) c.carry_out.result c.status.result c.args.dev.now c.carry_out.new.dev
+    (c.carry_out.ensures.told tells) (c.carry_out.ensures.broken tells) c.carry_out.ensures.failed c.status.ensures
+    outcome (gives_command (map string_bytes c.args.words.now) command files outcome c.in-Some.ensures gives)

@@ -1,0 +1,24 @@
+-- What each command gives, and what it does to a device at most: one case a command.
+use Rattle.std.specs.Prelude.{◌≡◌, ℕ, ◌⊎◌, List}
+use Rattle.acfg_device.specs.Only.{OnlySays}
+use Rattle.acfg_device.specs.Panel.{Files}
+use Rattle.acfg_device.specs.declared.panel.Panel.{Ghosts}
+use Rattle.acfg_top.specs.Flags.{FlagsGives}
+use Rattle.acfg_top.specs.Outcome.{Outcome, Usage}
+use Rattle.acfg_top.specs.Rehearsal.{RehearseGives}
+use Rattle.acfg_top.specs.Words.{Command, Flags, Rehearse, Asks}
+
+abbrev pub CommandGives : Command → Files → Outcome → Type 0
+CommandGives (Flags file) files outcome = FlagsGives file (files file) outcome
+CommandGives (Rehearse script) files outcome = RehearseGives script files (files script) outcome
+
+-- The outcome of words on files: that of the command they ask for, and usage where they ask for none.
+abbrev pub Gives : List (List ℕ) → Files → Outcome → Type 0
+Gives words files outcome =
+    ((command : Command) × Asks words command × CommandGives command files outcome)
+    ⊎ (((command : Command) → Asks words command → ⊥) × (outcome ≡ Usage))
+
+-- a command that writes no file only says
+abbrev pub Only : {P : Type 0} → Ghosts P → Command → P → P → Type 0 → Type 0
+Only panel (Flags file) before after fails = OnlySays panel before after fails
+Only panel (Rehearse script) before after fails = OnlySays panel before after fails
