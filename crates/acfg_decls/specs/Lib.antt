@@ -1,4 +1,6 @@
 pub mod Compile
 pub mod Flags
+pub mod Messages
 pub mod Places
 pub mod Releases
+pub mod Walk

@@ -6,6 +6,7 @@ mod declared;
 mod declaring;
 mod faults;
 mod flags;
+mod messages;
 mod order;
 mod own;
 mod setting;
