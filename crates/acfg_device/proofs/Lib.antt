@@ -4,10 +4,7 @@ pub mod Cuts
 pub mod Moments
 pub mod Naming
 pub mod OnlyThen
-<<<<<<< HEAD
 pub mod Ranges
-=======
->>>>>>> tighten
 pub mod Read
 pub mod Runs
 pub mod Settling

@@ -64,7 +64,6 @@ module _ {P : Type 0} {panel : Ghosts P} {first second : P} {fails : Type 0} whe
     count = reads.count;
     failed = reads.failed;
   }
-<<<<<<< HEAD
 
   -- more files may have changed
   pub changes_more : (some changed : List ℕ → Type 0) → ((name : List ℕ) → some name → changed name) → OnlyChanges panel some first second fails → OnlyChanges panel changed first second fails
@@ -74,5 +73,3 @@ module _ {P : Type 0} {panel : Ghosts P} {first second : P} {fails : Type 0} whe
     count = changes.count;
     failed = changes.failed;
   }
-=======
->>>>>>> tighten

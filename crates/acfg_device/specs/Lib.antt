@@ -3,8 +3,5 @@ pub mod Calls
 pub mod Disk
 pub mod Left
 pub mod Only
-<<<<<<< HEAD
 pub mod Outcomes
-=======
->>>>>>> tighten
 pub mod Panel
