@@ -1,6 +1,7 @@
 pub mod Compile
 pub mod Flags
 pub mod Messages
+pub mod Numbers
 pub mod Places
 pub mod Releases
 pub mod Walk

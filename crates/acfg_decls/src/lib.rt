@@ -9,7 +9,9 @@ mod flags;
 mod messages;
 mod order;
 mod own;
+mod scalars;
 mod setting;
+mod walk;
 
 pub use compiling::{MOST_FLAGS, compile};
 pub use declared::{Declarations, Values};
