@@ -8,3 +8,4 @@ mod System
 mod Tested
 mod Twins
 mod Valued
+mod Walks

@@ -1,9 +1,7 @@
 //! The walk over messages: which fault of a message comes first.
 
-ghost use Rattle.std.specs.Prelude.{◌≡◌, ◌++◌, List, map, Bool, list_all};
-ghost use Rattle.std.specs.Option.{option_map};
-ghost use Rattle.std.specs.List.{flat_map, list_all, list_any};
-ghost use Rattle.acfg_text.specs.declared.tree.Tree.{out-Tree};
+ghost use Rattle.std.specs.Prelude.{◌≡◌, ◌&&◌, ◌||◌};
+ghost use Rattle.std.specs.List.{flat_map, list_all};
 ghost use Rattle.acfg_text.specs.declared.tree.Item.{out-Item};
 ghost use Rattle.acfg_decls.specs.Walk.{first, inside, is_of, is_once, is_required, is_whole, item_faults, stands, walk};
 
