@@ -1,11 +1,14 @@
 //! Why declarations and values are refused.
 
 use acfg_base::OutOfMemory;
+use acfg_text::{TextFault, TextWhat};
 use std::alloc::{AllocError, AllocFailed};
 
 /// What is wrong with a file of declarations or values.
 #[derive(Clone, Copy, Debug, PartialEq, Eq)]
 pub enum DeclWhat {
+    /// A fault of the text itself.
+    Text(TextWhat),
     /// A message has no field of this name.
     UnknownField,
     /// A field that stands once stood before in its message, or is given as a list.
@@ -128,5 +131,19 @@ impl From<OutOfMemory> for CompileFault {
 
     fn from(_refusal: OutOfMemory) -> CompileFault {
         CompileFault::OutOfMemory
+    }
+}
+
+impl From<TextFault> for DeclFault {
+    ghost use Rattle.std.specs.Prelude.{◌≡◌};
+    ghost use Rattle.acfg_decls.specs.Reading.{fault_of_text};
+
+    ghost from_gives = { λ given fault. fault ≡ fault_of_text given };
+
+    fn from(fault: TextFault) -> DeclFault {
+        match fault {
+            TextFault::At(place, what) => DeclFault::At(place, DeclWhat::Text(what)),
+            TextFault::OutOfMemory => DeclFault::OutOfMemory,
+        }
     }
 }

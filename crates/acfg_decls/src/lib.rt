@@ -9,6 +9,7 @@ mod flags;
 mod messages;
 mod order;
 mod own;
+mod reading;
 mod scalars;
 mod setting;
 mod walk;
