@@ -4,6 +4,7 @@ mod Distinct
 mod Files
 mod Fronts
 mod Named
+mod OneAnswer
 mod System
 mod Tested
 mod Twins
