@@ -1,6 +1,7 @@
 //! The folder of a name, and the folders in which names changed.
 
-ghost use Rattle.std.specs.Prelude.{◌≡◌, ◌≢◌, ◌-◌, ◌<◌, ◌≤◌, ℕ, [], Contains, IsTrue, OnOk, OnErr, length, map, slice_index, string_bytes};
+ghost use Rattle.std.specs.Prelude.{◌≡◌, ◌≢◌, ◌-◌, ◌<◌, ◌≤◌, ℕ, [], Contains, IsTrue, OnOk, OnErr, length, map};
+ghost use Rattle.std.specs.Prelude.{slice_index, string_bytes};
 ghost use Rattle.acfg_hostdev.specs.Folder.{AllStay, end_of, folder, is_other, is_slash};
 
 use acfg_device::OutOfMemory;

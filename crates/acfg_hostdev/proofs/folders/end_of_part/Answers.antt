@@ -1,4 +1,4 @@
-use Rattle.std.proofs.Common.{◌≡◌, ◌-◌, ℕ, true, arith, get_or}
+use Rattle.std.proofs.Common.{◌≡◌, ◌-◌, true, arith, get_or}
 use Rattle.std.proofs.lemmas.Bool.Decides.{nat_tests}
 use Rattle.acfg_hostdev.proofs.Ends.{ends_at, none_passes}
 use Rattle.acfg_hostdev.specs.Folder.{is_other}

@@ -1,5 +1,5 @@
-use Rattle.std.proofs.Common.{◌≡◌, ◌<◌, ◌≤◌, ℕ, Bool, false, length, get_or}
-use Rattle.acfg_hostdev.specs.Folder.{is_other, is_slash}
+use Rattle.std.proofs.Common.{◌≡◌, ◌<◌, ◌≤◌, ℕ, false, length, get_or}
+use Rattle.acfg_hostdev.specs.Folder.{is_slash}
 use Rattle.acfg_hostdev.proofs.folders.end_of_slash.Given as goal
 
 abbrev pub invariant-loop-end : goal.invariant-loop-end
