@@ -13,7 +13,7 @@ loop-entry-preserved c = λ k d below.
     ⊎_elim
     (λ before. c.loop-entry.invariant k d before)
     (λ last.
-        let same : k ≡ i = omega arith in
-        let is : entry ≡ get_or entries k d = c.entry-item.is ∙ get_or_default entries i entry d c.loop-entry-test.true ∙ ap (λ n. get_or entries n d) (sym same) in
-        subst (λ e. IsKey (key_of e)) is key)
+    let same : k ≡ i = omega arith in
+    let is : entry ≡ get_or entries k d = c.entry-item.is ∙ get_or_default entries i entry d c.loop-entry-test.true ∙ ap (λ n. get_or entries n d) (sym same) in
+    subst (λ e. IsKey (key_of e)) is key)
     (cases_lt k i)
