@@ -1,20 +1,21 @@
 -- The order of keys, and what lists of entries say of twins.
-use Rattle.std.proofs.Common.{◌≡◌, ℕ, zero, suc, ◌+◌, ◌<◌, ◌≤◌, Bool, true, false, cond, T, List, [], ◌∷◌, map, length, get_or, count_by, IsPermutation, IsSortedByKey, refl, sym, ap, ◌∙◌, true≢false, Ordering, Less, Equal, Greater, is_lt, is_eq, arith, add-one, subst, ap₂, ◌&&◌}
+use Rattle.std.proofs.Common.{◌≡◌, ℕ, zero, suc, ◌+◌, ◌<◌, ◌≤◌, Bool, true, false, cond, T, List, [], ◌∷◌, map, length, get_or, count_by, IsPermutation, IsSortedByKey, refl, sym, ap, ◌∙◌, true≢false, Ordering, Less, Equal, Greater, is_lt, is_eq, arith, add-one, subst, ap₂, ◌&&◌, Option, None, Some, option_map}
 use Rattle.std.specs.Ordering.{nat_cmp, eq_by_cmp, ordering_reverse}
 use Rattle.std.specs.Cmp.{IsTotalOrder, then_total, on_total, tied_itself}
 use Rattle.std.specs.Cmp.Lexicographic.{slice_cmp, nat_list_cmp_total}
 use Rattle.std.specs.FinMap.{IsAntisymmetric, entries, entries_sorted, find, get-entries, get-from_entries, is_sorted, len, same_map}
 use Rattle.std.specs.FinMap.Entries.{below_all}
+use Rattle.std.proofs.lemmas.List.Elements.{All-contains}
 use Rattle.std.proofs.lemmas.List.Sums.{sum_by-cons}
 use Rattle.std.proofs.lemmas.List.Sorted.{sum_by-IsPermutation}
 use Rattle.std.proofs.lemmas.Map.Lookups.{exact_bytes, exact_pairs}
 use Rattle.acfg_base.specs.declared.releases.Entry.{Entry}
 use Rattle.acfg_base.specs.declared.releases.Kind.TheVariants.{ReadWrite}
-use Rattle.acfg_base.specs.Places.{AreInOrder}
+use Rattle.acfg_base.specs.Places.{AreInOrder, row_at}
 use Rattle.acfg_base.specs.declared.releases.Kind.{Kind}
-use Rattle.acfg_base.specs.Release.{Key, ReleaseMap, key_cmp, key_of, facts_of, entry_at, release_of, entries_of, HasTwins}
+use Rattle.acfg_base.specs.Release.{Key, ReleaseMap, key_cmp, key_of, facts_of, entry_at, release_of, entries_of, AreNamed, HasLawfulKeys, HasTwins, IsKey}
 use Rattle.acfg_base.specs.Bodies.{SomeStepDown}
-use Rattle.acfg_base.proofs.Rows.{T_of, first_true, second_true, Less_of, Equal_of, entries-map_of, len-map_of, map_of-permuted, true_of, AreInOrder-map}
+use Rattle.acfg_base.proofs.Rows.{T_of, first_true, second_true, Less_of, Equal_of, entries-map_of, len-map_of, map_of-permuted, true_of, AreInOrder-map, get-map_of, row_at-found}
 
 pub key_total : IsTotalOrder key_cmp
 key_total = then_total (on_total (λ (k : Key). k.0) nat_list_cmp_total) (on_total (λ (k : Key). k.1) nat_list_cmp_total)
@@ -123,3 +124,13 @@ release_of-entries_of release = same_map key_total key_exact _ _ (λ q. get-from
 
 pub len-release_of : (es : List Entry) → AreInOrder key_cmp key_of es → len (release_of es) ≡ length es
 len-release_of = len-map_of key_total key_of key_exact facts_of
+
+-- the release of entries of lawful names has lawful keys
+pub named_keys : (es : List Entry) → AreNamed es → HasLawfulKeys (release_of es)
+named_keys es named = record { each = λ key facts has. found key facts (row_at key_cmp key_of es key) refl (sym (get-map_of key_total key_of facts_of es key) ∙ has) }
+  where
+    found : (key : Key) (facts : Kind × Bool) (row : Option Entry) → row_at key_cmp key_of es key ≡ row → option_map facts_of row ≡ Some facts → IsKey key
+    found key facts None is has = cc
+    found key facts (Some e) is has =
+        let there = row_at-found key_total key_of es key e is in
+        subst IsKey (key_exact _ _ there.1) (All-contains (λ entry. IsKey (key_of entry)) es e named there.0)

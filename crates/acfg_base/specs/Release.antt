@@ -1,9 +1,10 @@
 -- Releases: which flags a container has, each with its kind and value, as AOSP aconfig_storage_file keeps them.
-use Rattle.std.specs.Prelude.{ℕ, ◌<◌, Bool, List, map, count_by}
+use Rattle.std.specs.Prelude.{◌≡◌, ℕ, ◌<◌, Bool, List, Some, All, map, count_by}
 use Rattle.std.specs.declared.cmp.Ordering.{Ordering}
 use Rattle.std.specs.Ordering.{nat_cmp, ordering_then, eq_by_cmp}
 use Rattle.std.specs.Cmp.Lexicographic.{slice_cmp}
-use Rattle.std.specs.FinMap.{FinMap, entries}
+use Rattle.std.specs.FinMap.{FinMap, entries, get}
+use Rattle.acfg_base.specs.Names.{IsName, IsPackage}
 use Rattle.acfg_base.specs.Places.{map_of}
 use Rattle.acfg_base.specs.declared.releases.Kind.{Kind}
 use Rattle.acfg_base.specs.declared.releases.Entry.{Entry}
@@ -38,6 +39,19 @@ release_of list = map_of key_cmp key_of list facts_of
 -- the entries of a release, in order of their keys
 abbrev pub entries_of : ReleaseMap → List Entry
 entries_of release = map entry_at (entries release)
+
+-- a key of lawful names
+pub record IsKey (key : Key) : Type 0 where
+  pub «package» : IsPackage key.0
+  pub flag : IsName key.1
+
+-- each flag of a release has a key of lawful names
+pub record HasLawfulKeys (release : ReleaseMap) : Type 0 where
+  pub each : (key : Key) (facts : Kind × Bool) → get release key ≡ Some facts → IsKey key
+
+-- each of the entries has one
+abbrev pub AreNamed : List Entry → Type 0
+AreNamed list = All (λ entry. IsKey (key_of entry)) list
 
 -- some key is that of more than one entry
 abbrev pub HasTwins : List Entry → Type 0

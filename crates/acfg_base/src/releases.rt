@@ -4,7 +4,7 @@ ghost use Rattle.std.specs.Prelude.{◌≡◌, ◌↔◌, IfOk, IfSome, IsNone, 
 ghost use Rattle.std.specs.Bool.{MatchBool};
 ghost use Rattle.std.specs.FinMap.{get, len};
 ghost use Rattle.acfg_base.specs.Bodies.{SomeStepDown};
-ghost use Rattle.acfg_base.specs.Release.{key_of, key_cmp, release_of, entries_of, HasTwins};
+ghost use Rattle.acfg_base.specs.Release.{key_of, key_cmp, release_of, entries_of, AreNamed, HasLawfulKeys, HasTwins};
 ghost use Rattle.acfg_base.specs.Places.{AreInOrder};
 
 use crate::memory::OutOfMemory;
@@ -52,9 +52,9 @@ pub struct Release {
 }
 
 impl Model for Release {
-    ghost use Rattle.acfg_base.specs.Places.{AreInOrder};
+    ghost use Rattle.acfg_base.specs.Bodies.{IsKept};
     ghost use Rattle.acfg_base.specs.Codes.{release_code};
-    ghost use Rattle.acfg_base.specs.Release.{ReleaseMap, key_cmp, key_of, release_of};
+    ghost use Rattle.acfg_base.specs.Release.{ReleaseMap, release_of};
 
     ghost Value = { ReleaseMap };
 
@@ -62,7 +62,7 @@ impl Model for Release {
 
     ghost view = { λ release. release_of release.entries.items };
 
-    ghost invariant = { λ release. AreInOrder key_cmp key_of release.entries.items };
+    ghost invariant = { λ release. IsKept release.entries.items };
 }
 
 impl Release {
@@ -75,6 +75,7 @@ impl Release {
         if !rise(&entries) {
             return Ok(None);
         }
+        are_named(&entries);
         Ok(Some(Release { entries }))
     }
 
@@ -83,12 +84,14 @@ impl Release {
         requires { AreInOrder key_cmp key_of entries.items }
         ensures { result ≡ release_of entries.items }
     {
+        are_named(&entries);
         Release { entries }
     }
 
     /// How many flags the release has.
     pub fn len(&self) -> usize
-        ensures { result ≡ len self.now }
+        ensures count { result ≡ len self.now }
+        ensures keys { HasLawfulKeys self.now }
     {
         self.entries.as_slice().len()
     }
@@ -104,6 +107,7 @@ impl Release {
     pub fn into_entries(self) -> Vec<Entry>
         ensures all { result.items ≡ entries_of self }
         ensures order { AreInOrder key_cmp key_of result.items }
+        ensures named { AreNamed result.items }
     {
         let Release { entries } = self;
         entries
@@ -113,6 +117,7 @@ impl Release {
     pub fn entries(&self) -> &[Entry]
         ensures all { result.now ≡ entries_of self.now }
         ensures order { AreInOrder key_cmp key_of result.now }
+        ensures named { AreNamed result.now }
     {
         self.entries.as_slice()
     }
@@ -137,6 +142,16 @@ impl Clone for Release {
     fn clone(&self) -> Result<Release, AllocError> {
         let entries = self.entries.clone()?;
         Ok(Release { entries })
+    }
+}
+
+// The names of entries are lawful, as each of them tells.
+fn are_named(entries: &[Entry])
+    ensures { AreNamed entries.now }
+{
+    for entry in entries {
+        let _package = entry.package.as_str();
+        let _flag = entry.flag.as_str();
     }
 }
 

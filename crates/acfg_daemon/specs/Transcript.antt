@@ -33,7 +33,7 @@ bad_line number = codes "? bad-line " ++ decimal number ++ line_feed ∷ []
 abbrev pub Serves : Files → State → List ℕ → State → Reply → Type 0
 Serves files state text after reply =
     ((request : Request) × (loaded : Option Loaded) × Spells text request × Loads files request loaded
-      × (step state request loaded ≡ (after, reply)))
+    × (step state request loaded ≡ (after, reply)))
     ⊎ (((request : Request) → Spells text request → ⊥) × (after ≡ state) × (reply ≡ bad_request))
 
 -- what is said to an event, and the state after it
@@ -61,7 +61,7 @@ abbrev pub BeginsLine : Files → State → ℕ → List ℕ → List ℕ → Ty
 BeginsLine files state number line text =
     (text ≡ [])
     ⊎ ((after : State) × (said : List ℕ) × (rest : List ℕ) × LineSays files state number line after said
-      × (said ≡ text ++ rest))
+    × (said ≡ text ++ rest))
 
 -- the first part of the transcript of lines: whole lines said, and then the first part of one
 abbrev pub Begins : Files → State → ℕ → List (List ℕ) → List ℕ → Type 0
@@ -69,4 +69,4 @@ Begins files state number [] text = text ≡ []
 Begins files state number (line ∷ lines) text =
     BeginsLine files state number line text
     ⊎ ((after : State) × (said : List ℕ) × (rest : List ℕ) × LineSays files state number line after said
-      × Begins files after (number + 1) lines rest × (text ≡ said ++ rest))
+    × Begins files after (number + 1) lines rest × (text ≡ said ++ rest))

@@ -84,7 +84,11 @@ fn answer<P: Panel>(
 {
     match read_line(line) {
         Arrived::BadLine => Ok(bad_line_text(alloc, number)?),
-        Arrived::TooLong(client) => Ok(reply_text(alloc, client, &Reply::Refused(Refusal::TooLong.number()))?),
+        Arrived::TooLong(client) => Ok(reply_text(
+            alloc,
+            client,
+            &Reply::Refused(Refusal::TooLong.number()),
+        )?),
         Arrived::Complete(client, text) => {
             let reply = serve(alloc, panel, machine, text)?;
             Ok(reply_text(alloc, client, &reply)?)

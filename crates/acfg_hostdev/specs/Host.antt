@@ -1,5 +1,7 @@
--- How a failure of the host is counted: once, until the count stands at its last number.
-use Rattle.std.specs.Prelude.{◌≡◌, ◌+◌, ℕ, Result, MatchResult, min}
+-- How a failure of the host is counted: once, until the count stands at its last number. What a write that was
+-- broken off leaves.
+use Rattle.std.specs.Prelude.{◌≡◌, ◌+◌, ◌++◌, ℕ, List, Option, Result, MatchResult, min}
+use Rattle.std.specs.Io.KnownBytes.{Appends}
 use Rattle.acfg_device.specs.Panel.{last_count}
 use Rattle.acfg_device.specs.declared.panel.ReadFault.{ReadFault}
 use Rattle.acfg_device.specs.declared.panel.ReadFault.TheVariants.{Failed, OutOfMemory}
@@ -12,3 +14,7 @@ CountsFailure result before after = MatchResult result (λ _. after ≡ before) 
 abbrev pub CountsFault : ReadFault → ℕ → ℕ → Type 0
 CountsFault Failed before after = after ≡ min (before + 1) last_count
 CountsFault OutOfMemory before after = after ≡ before
+
+-- known bytes grew by the first few of these
+abbrev pub AppendsPart : Option (List ℕ) → Option (List ℕ) → List ℕ → Type 0
+AppendsPart before after bytes = (part rest : List ℕ) × (bytes ≡ part ++ rest) × Appends before after part

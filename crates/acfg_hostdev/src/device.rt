@@ -7,10 +7,12 @@ ghost use Rattle.acfg_device.specs.Disk.{told};
 ghost use Rattle.acfg_device.specs.Panel.{Rose, last_count};
 ghost use Rattle.acfg_hostdev.specs.Host.{CountsFailure, CountsFault};
 
+use crate::faults::HostFault;
 use crate::files::{
-    Folders, HostFault, read_file, remove_file, rename_file, sync_file, sync_folders, write_file,
-    write_file_at, write_whole,
+    read_file, remove_file, rename_file, sync_file, sync_folders, write_file, write_file_at,
 };
+use crate::folders::Folders;
+use crate::transfer::write_whole;
 use acfg_device::{Device, Failed, Panel, ReadFault};
 use std::alloc::Global;
 use std::io;
@@ -43,7 +45,7 @@ impl<R: Files + Print + Drop> HostDevice<R> {
         HostDevice {
             rt,
             alloc,
-            folders: Vec::new(alloc),
+            folders: Folders::new(alloc),
             faults: 0,
         }
     }
@@ -141,7 +143,7 @@ impl<R: Files + Print + Drop> Device for HostDevice<R> {
         ensures count { self.old ≤ self.new }
         ensures failed { OnErr result (Rose self.old self.new) }
     {
-        let done = sync_file(&self.rt, name);
+        let done = sync_file(&self.rt, &mut self.folders, self.alloc, name);
         self.counted(done)
     }
 

@@ -1,52 +1,17 @@
 //! Calls on the host's files and folders.
 
-ghost use Rattle.std.specs.Prelude.{◌≡◌};
-ghost use Rattle.acfg_hostdev.specs.declared.files.HostFault.TheVariants.{Failed, OutOfMemory};
+ghost use Rattle.std.specs.Prelude.{◌≡◌, [], Contains, OnOk, OnErr};
+ghost use Rattle.acfg_hostdev.specs.Folder.{AllStay, folder};
 
-use std::alloc::{AllocError, AllocFailed, Global};
+use crate::faults::HostFault;
+use crate::folders::{Folders, folder_of};
+use crate::transfer::{MAX_BYTES, read_whole, write_whole};
+use acfg_device::OutOfMemory;
+use std::alloc::Global;
+use std::fs;
 use std::fs::{File, OpenFile, OpenOptions};
-use std::io::{Error, ErrorKind, Read, Seek, SeekFrom, Write};
+use std::io::{ErrorKind, Seek, SeekFrom};
 use std::rt::Files;
-use std::{fs, io};
-
-/// The most bytes that a file may have to be read.
-const MAX_BYTES: usize = 1 << 30;
-
-/// How many bytes one turn of a read asks for.
-const CHUNK: usize = 1 << 14;
-
-/// Why nothing was done.
-#[derive(Drop)]
-pub enum HostFault {
-    /// Memory was refused.
-    OutOfMemory,
-    /// The host failed, or gave what is taken for a failure.
-    Failed,
-}
-
-impl From<AllocError> for HostFault {
-    ghost from_gives = { λ _ fault. fault ≡ OutOfMemory };
-
-    fn from(_refusal: AllocError) -> HostFault {
-        HostFault::OutOfMemory
-    }
-}
-
-impl<T: Drop> From<AllocFailed<T>> for HostFault {
-    ghost from_gives = { λ _ fault. fault ≡ OutOfMemory };
-
-    fn from(_refusal: AllocFailed<T>) -> HostFault {
-        HostFault::OutOfMemory
-    }
-}
-
-impl From<Error> for HostFault {
-    ghost from_gives = { λ _ fault. fault ≡ Failed };
-
-    fn from(_error: Error) -> HostFault {
-        HostFault::Failed
-    }
-}
 
 /// The file's bytes, or nothing where the host says that there is no such file.
 pub fn read_file<R: Files>(
@@ -68,60 +33,19 @@ pub fn read_file<R: Files>(
     if size > MAX_BYTES as u64 {
         return Err(HostFault::Failed);
     }
-    let mut bytes = Vec::with_capacity(alloc, size as usize)?;
-    let mut chunk = [0; CHUNK];
-    // Each turn but the last takes a byte at least.
-    for _ in 0..=MAX_BYTES {
-        let count = file.read(&mut chunk)?;
-        if count == 0 {
-            return Ok(Some(bytes));
-        }
-        if bytes.len().saturating_add(count) > MAX_BYTES {
-            return Err(HostFault::Failed);
-        }
-        bytes.extend_from_slice(&chunk[..count])?;
-    }
-    Err(HostFault::Failed)
+    let bytes = read_whole(alloc, &mut file, size as usize)?;
+    Ok(Some(bytes))
 }
 
-/// Writes all the bytes, or fails where the host takes none of them.
-pub fn write_whole<W: Write>(to: &mut W, bytes: &[u8]) -> Result<(), HostFault> {
-    let mut rest = bytes;
-    while !rest.is_empty() {
-        let count = to.write(rest)?;
-        if count == 0 {
-            return Err(HostFault::Failed);
-        }
-        rest = &rest[count..];
-    }
-    Ok(())
-}
-
-/// The folder in which the name stands.
-fn folder_of(name: &str) -> &str {
-    match name.rfind('/') {
-        Some(0) => "/",
-        Some(end) => &name[..end],
-        None => ".",
-    }
-}
-
-/// The folders in which names changed since they were last synced.
-pub type Folders = Vec<String>;
-
-/// Memory for one folder more, and its name.
-fn reserve_folder(folders: &mut Folders, alloc: Global, name: &str) -> Result<String, HostFault> {
-    folders.reserve(1)?;
-    Ok(String::from_str(alloc, folder_of(name))?)
-}
-
-/// Notes a folder, whose memory was reserved.
-fn note_folder(folders: &mut Folders, folder: String) {
-    if !folders
-        .iter()
-        .any(|noted| noted.as_str() == folder.as_str())
-    {
-        let _ = folders.push(folder);
+/// Notes the folder of a name, before the name changes in it.
+fn note_folder_of(folders: &mut Folders, alloc: Global, name: &str) -> Result<(), HostFault>
+    ensures ok { OnOk result (Contains folders.new (folder name.now)) }
+    ensures err { OnErr result (result ≡ Err HostFault.OutOfMemory) }
+    ensures kept { AllStay folders.old folders.new }
+{
+    match folders.note(alloc, folder_of(name)) {
+        Ok(()) => Ok(()),
+        Err(OutOfMemory) => Err(HostFault::OutOfMemory),
     }
 }
 
@@ -130,64 +54,81 @@ fn make_folder<R: Files>(
     rt: &R,
     folders: &mut Folders,
     alloc: Global,
-    folder: &str,
-) -> Result<(), HostFault> {
-    let above = reserve_folder(folders, alloc, folder)?;
-    match fs::create_dir(rt, folder) {
-        Ok(()) => {
-            note_folder(folders, above);
-            Ok(())
+    name: &str,
+) -> Result<(), HostFault>
+    ensures noted { (result ≡ Err HostFault.OutOfMemory → ⊥) → Contains folders.new (folder name.now) }
+    ensures kept { AllStay folders.old folders.new }
+{
+    note_folder_of(folders, alloc, name)?;
+    if make_one(rt, name)? {
+        return Ok(());
+    }
+    let above = folder_of(name);
+    if above.len() < name.len() {
+        make_folder(rt, folders, alloc, above)?;
+        if make_one(rt, name)? {
+            return Ok(());
         }
+    }
+    Err(HostFault::Failed)
+}
+
+/// Whether a folder was made or is there; not where the one above it is missing.
+fn make_one<R: Files>(rt: &R, name: &str) -> Result<bool, HostFault>
+    ensures { OnErr result (result ≡ Err HostFault.Failed) }
+{
+    match fs::create_dir(rt, name) {
+        Ok(()) => Ok(true),
         Err(error) => match error.kind() {
-            ErrorKind::AlreadyExists => Ok(()),
-            ErrorKind::NotFound if above.len() < folder.len() => {
-                make_folder(rt, folders, alloc, above.as_str())?;
-                fs::create_dir(rt, folder)?;
-                folders.reserve(1)?;
-                note_folder(folders, above);
-                Ok(())
-            }
+            ErrorKind::AlreadyExists => Ok(true),
+            ErrorKind::NotFound => Ok(false),
             _ => Err(HostFault::Failed),
         },
     }
 }
 
-/// Opens a file to be written anew, and makes it and the folders above it where they are missing.
-fn open_new<R: Files>(
-    rt: &R,
-    folders: &mut Folders,
-    alloc: Global,
-    name: &str,
-) -> Result<R::File, HostFault> {
-    match OpenOptions::new().write(true).truncate(true).open(rt, name) {
-        Ok(file) => return Ok(file),
-        Err(error) => {
-            if error.kind() != ErrorKind::NotFound {
-                return Err(HostFault::Failed);
-            }
-        }
-    }
-    make_folder(rt, folders, alloc, folder_of(name))?;
-    let folder = reserve_folder(folders, alloc, name)?;
-    note_folder(folders, folder);
-    let file = OpenOptions::new()
+/// Opens a file to be written anew, and makes it where it is missing; nothing where its folder is missing.
+fn open_anew<R: Files>(rt: &R, name: &str) -> Result<Option<R::File>, HostFault>
+    ensures { OnErr result (result ≡ Err HostFault.Failed) }
+{
+    let opened = OpenOptions::new()
         .write(true)
         .create(true)
         .truncate(true)
-        .open(rt, name)?;
-    Ok(file)
+        .open(rt, name);
+    match opened {
+        Ok(file) => Ok(Some(file)),
+        Err(error) => {
+            if error.kind() == ErrorKind::NotFound {
+                Ok(None)
+            } else {
+                Err(HostFault::Failed)
+            }
+        }
+    }
 }
 
-/// Gives the file these bytes in the place of all that it has.
+/// Gives the file these bytes in the place of all that it has, and makes it and the folders above it where they
+/// are missing.
 pub fn write_file<R: Files>(
     rt: &R,
     folders: &mut Folders,
     alloc: Global,
     name: &str,
     bytes: &[u8],
-) -> Result<(), HostFault> {
-    let mut file = open_new(rt, folders, alloc, name)?;
-    write_whole(&mut file, bytes)
+) -> Result<(), HostFault>
+    ensures noted { (result ≡ Err HostFault.OutOfMemory → ⊥) → Contains folders.new (folder name.now) }
+    ensures kept { AllStay folders.old folders.new }
+{
+    note_folder_of(folders, alloc, name)?;
+    if let Some(mut file) = open_anew(rt, name)? {
+        return write_whole(&mut file, bytes);
+    }
+    make_folder(rt, folders, alloc, folder_of(name))?;
+    match open_anew(rt, name)? {
+        Some(mut file) => write_whole(&mut file, bytes),
+        None => Err(HostFault::Failed),
+    }
 }
 
 /// Puts bytes into a file that is there, from a place on.
@@ -197,26 +138,48 @@ pub fn write_file_at<R: Files>(rt: &R, name: &str, at: u64, bytes: &[u8]) -> Res
     write_whole(&mut file, bytes)
 }
 
-/// Waits until the host says that the file, or the folder, is on its disk.
-pub fn sync_file<R: Files>(rt: &R, name: &str) -> Result<(), HostFault> {
+/// Waits until the host says that a file, or a folder, is on its disk.
+fn sync_one<R: Files>(rt: &R, name: &str) -> Result<(), HostFault>
+    ensures { OnErr result (result ≡ Err HostFault.Failed) }
+{
     let file = File::open(rt, name)?;
     file.sync_all()?;
     Ok(())
 }
 
+/// Waits until the host says that the file is on its disk, and notes its folder: a process that was killed may
+/// have made the file and noted nothing.
+pub fn sync_file<R: Files>(
+    rt: &R,
+    folders: &mut Folders,
+    alloc: Global,
+    name: &str,
+) -> Result<(), HostFault>
+    ensures noted { (result ≡ Err HostFault.OutOfMemory → ⊥) → Contains folders.new (folder name.now) }
+    ensures kept { AllStay folders.old folders.new }
+{
+    note_folder_of(folders, alloc, name)?;
+    sync_one(rt, name)
+}
+
+/// Gives a file another name.
 pub fn rename_file<R: Files>(
     rt: &R,
     folders: &mut Folders,
     alloc: Global,
     from: &str,
     to: &str,
-) -> Result<(), HostFault> {
-    let left = reserve_folder(folders, alloc, from)?;
-    note_folder(folders, left);
-    let entered = reserve_folder(folders, alloc, to)?;
-    note_folder(folders, entered);
-    fs::rename(rt, from, to)?;
-    Ok(())
+) -> Result<(), HostFault>
+    ensures left { (result ≡ Err HostFault.OutOfMemory → ⊥) → Contains folders.new (folder from.now) }
+    ensures entered { (result ≡ Err HostFault.OutOfMemory → ⊥) → Contains folders.new (folder to.now) }
+    ensures kept { AllStay folders.old folders.new }
+{
+    note_folder_of(folders, alloc, from)?;
+    note_folder_of(folders, alloc, to)?;
+    match fs::rename(rt, from, to) {
+        Ok(()) => Ok(()),
+        Err(_error) => Err(HostFault::Failed),
+    }
 }
 
 /// Takes the name away; where there is none, nothing changes.
@@ -225,13 +188,13 @@ pub fn remove_file<R: Files>(
     folders: &mut Folders,
     alloc: Global,
     name: &str,
-) -> Result<(), HostFault> {
-    let folder = reserve_folder(folders, alloc, name)?;
+) -> Result<(), HostFault>
+    ensures noted { (result ≡ Err HostFault.OutOfMemory → ⊥) → Contains folders.new (folder name.now) }
+    ensures kept { AllStay folders.old folders.new }
+{
+    note_folder_of(folders, alloc, name)?;
     match fs::remove_file(rt, name) {
-        Ok(()) => {
-            note_folder(folders, folder);
-            Ok(())
-        }
+        Ok(()) => Ok(()),
         Err(error) => {
             if error.kind() == ErrorKind::NotFound {
                 Ok(())
@@ -242,11 +205,14 @@ pub fn remove_file<R: Files>(
     }
 }
 
-/// Syncs each folder in which names changed, and then forgets them.
-pub fn sync_folders<R: Files>(rt: &R, folders: &mut Folders) -> Result<(), HostFault> {
-    for folder in folders.iter() {
-        sync_file(rt, folder.as_str())?;
+/// Syncs each folder in which names changed, and then forgets them; where one can't be synced, none is forgotten.
+pub fn sync_folders<R: Files>(rt: &R, folders: &mut Folders) -> Result<(), HostFault>
+    ensures ok { OnOk result (folders.new ≡ []) }
+    ensures err { OnErr result (folders.new ≡ folders.old) }
+{
+    for name in folders.names() {
+        sync_one(rt, name.as_str())?;
     }
-    folders.clear();
+    folders.forget();
     Ok(())
 }

@@ -1,8 +1,11 @@
-//! A device over the current folder of the host. It tells neither files nor words, and counts what fails.
+//! The device over the host's folder and its standard output.
 #![tactic(auto)]
 
 mod device;
+mod faults;
 mod files;
+mod folders;
+mod transfer;
 
 pub use device::HostDevice;
 

@@ -6,12 +6,12 @@ use Rattle.acfg_base.specs.declared.releases.Entry.{Entry}
 use Rattle.acfg_base.specs.declared.releases.Kind.{Kind}
 use Rattle.acfg_base.specs.declared.releases.Kind.TheVariants.{ReadWrite}
 use Rattle.acfg_base.specs.Places.{AreInOrder, StandsAt, WouldStandAt, row_at, map_where}
-use Rattle.acfg_base.specs.Release.{Key, key_cmp, key_of, facts_of, ReleaseMap, entries_of}
+use Rattle.acfg_base.specs.Release.{Key, key_cmp, key_of, facts_of, ReleaseMap, entries_of, HasLawfulKeys}
 use Rattle.acfg_base.proofs.Rows.{AreInOrder-map, row_at-map, row_at-found, row_at-stands, row_at-gap, get-map_of, get-map_where}
 use Rattle.acfg_base.proofs.Keys.{key_total, key_exact, entries_of-in_order, release_of-entries_of}
 use Rattle.acfg_base.proofs.Maps.{get-map_values}
 use Rattle.acfg_model.specs.declared.containers.FlagState.{FlagState}
-use Rattle.acfg_model.specs.State.{BootedFlag, BootMap, IsValidContainer, is_read_write, is_writable, pick}
+use Rattle.acfg_model.specs.State.{BootedFlag, BootMap, IsDigest, IsValidContainer, is_read_write, is_writable, pick}
 use Rattle.acfg_model.specs.Views.{booted_key, booted_flag, boot_of}
 use Rattle.acfg_model.specs.Step.{boot_map, with_release, fresh}
 use Rattle.acfg_model.specs.FlagStates.{row_key, release_in, server_in, local_in, container_in, booted_row, carried_row, IsLawful}
@@ -76,11 +76,11 @@ module _ (old : List FlagState) (order : AreInOrder key_cmp row_key old) (releas
   unfolding rows
   rows-with_release digest was boot = container-with_release digest was boot
 
-  pub lawful-with_release : (digest was : List ℕ) (boot : Option BootMap) → IsValidContainer (container_in was old boot) → IsLawful (map (carried_row old) (entries_of release)) (container_in digest (map (carried_row old) (entries_of release)) boot)
+  pub lawful-with_release : (digest was : List ℕ) (boot : Option BootMap) → IsDigest digest → HasLawfulKeys release → IsValidContainer (container_in was old boot) → IsLawful (map (carried_row old) (entries_of release)) (container_in digest (map (carried_row old) (entries_of release)) boot)
   unfolding rows
-  lawful-with_release digest was boot valid = record {
+  lawful-with_release digest was boot sized keys valid = record {
     order = in_order;
-    valid = subst IsValidContainer (sym (rows-with_release digest was boot)) (IsValidContainer-with_release (container_in was old boot) valid digest release);
+    valid = subst IsValidContainer (sym (rows-with_release digest was boot)) (IsValidContainer-with_release (container_in was old boot) valid digest release sized keys);
   }
 
 -- without old rows there are no overrides
@@ -95,10 +95,10 @@ rows-fresh release digest = rows-with_release [] refl release digest [] None ∙
     nothing = same_map key_total key_exact _ _ (λ q.
         get-retain_keys empty (is_writable release) q (λ x t. ap (is_writable release) (sym (key_exact q x t))) ∙ ap (λ o. cond (is_writable release q) o None) (get-empty key_cmp q) ∙ none_of (is_writable release q) ∙ sym (get-empty key_cmp q))
 
-pub lawful-fresh : (release : ReleaseMap) (digest : List ℕ) → IsLawful (map (carried_row []) (entries_of release)) (container_in digest (map (carried_row []) (entries_of release)) None)
-lawful-fresh release digest = record {
+pub lawful-fresh : (release : ReleaseMap) (digest : List ℕ) → IsDigest digest → HasLawfulKeys release → IsLawful (map (carried_row []) (entries_of release)) (container_in digest (map (carried_row []) (entries_of release)) None)
+lawful-fresh release digest sized keys = record {
   order = AreInOrder-map key_total row_key (carried_row []) (entries_of release) (entries_of-in_order release);
-  valid = subst IsValidContainer (sym (rows-fresh release digest)) (IsValidContainer-fresh digest release);
+  valid = subst IsValidContainer (sym (rows-fresh release digest)) (IsValidContainer-fresh digest release sized keys);
 }
 
 module _ (digest : List ℕ) (rows : List FlagState) (boot : Option BootMap) (order : AreInOrder key_cmp row_key rows) where

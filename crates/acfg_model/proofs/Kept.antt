@@ -11,7 +11,8 @@ use Rattle.std.proofs.lemmas.Map.Lookups.{exact_bytes}
 use Rattle.acfg_base.specs.Maps.{map_values}
 use Rattle.acfg_base.specs.Places.{AreInOrder, StandsAt, WouldStandAt, row_at}
 use Rattle.acfg_base.specs.Release.{Key, ReleaseMap}
-use Rattle.acfg_base.proofs.Rows.{AreInOrder-map, AreInOrder-set, AreInOrder-insert, row_at-map, row_at-stands, row_at-gap, get-map_of, len-map_of, map_of-set, map_of-kept, map_of-insert}
+use Rattle.acfg_base.specs.Names.{IsContainer}
+use Rattle.acfg_base.proofs.Rows.{Equal_of, AreInOrder-map, AreInOrder-set, AreInOrder-insert, row_at-map, row_at-stands, row_at-gap, get-map_of, len-map_of, map_of-set, map_of-kept, map_of-insert}
 use Rattle.acfg_base.proofs.Maps.{get-map_values}
 use Rattle.acfg_model.specs.declared.machines.NamedContainer.{NamedContainer}
 use Rattle.acfg_model.specs.declared.refusals.Refusal.{Refusal}
@@ -47,7 +48,7 @@ pair_of state reply = (state, reply)
 pub IsKept-empty : IsKept []
 IsKept-empty = record {
   order = refl;
-  valid = record { bound = omega (arith, len-empty name_cmp Container); each = λ name c e. absurd (none_is_some (sym (get-empty name_cmp name) ∙ e)) };
+  valid = record { bound = omega (arith, len-empty name_cmp Container); names = λ name c e. absurd (none_is_some (sym (get-empty name_cmp name) ∙ e)); each = λ name c e. absurd (none_is_some (sym (get-empty name_cmp name) ∙ e)) };
 }
 
 -- one container more, or in the place of another one
@@ -58,16 +59,24 @@ inserted_each state valid name c ok q d e =
       | false ↦ λ is. valid.each q d is
     ] (sym (get-insert name_total state name c q) ∙ e)
 
+inserted_names : (state : State) → IsValid state → (name : List ℕ) (c : Container) → IsContainer name → (q : List ℕ) (d : Container) → get (insert state name c) q ≡ Some d → IsContainer q
+inserted_names state valid name c lawful q d e =
+    elim (eq_by_cmp name_cmp q name) as (λ b. eq_by_cmp name_cmp q name ≡ b → cond b (Some c) (get state q) ≡ Some d → IsContainer q) [
+      | true ↦ λ t is. subst IsContainer (sym (name_exact q name (Equal_of _ t))) lawful
+      | false ↦ λ t is. valid.names q d is
+    ] refl (sym (get-insert name_total state name c q) ∙ e)
+
 pub IsValid-replaced : (state : State) → IsValid state → (name : List ℕ) (was c : Container) → get state name ≡ Some was → IsValidContainer c → IsValid (insert state name c)
 IsValid-replaced state valid name was c there ok = record {
   bound = subst (λ n. n ≤ most_containers) (sym (len-insert name_total state name c ∙ ap (λ o. cond (is_some o) (len state) (len state + 1)) there)) valid.bound;
+  names = inserted_names state valid name c (valid.names name was there);
   each = inserted_each state valid name c ok;
 }
 
-pub IsValid-added : (state : State) → IsValid state → (name : List ℕ) (c : Container) → get state name ≡ None → len state < most_containers → IsValidContainer c → IsValid (insert state name c)
-IsValid-added state valid name c absent room ok =
+pub IsValid-added : (state : State) → IsValid state → (name : List ℕ) (c : Container) → get state name ≡ None → len state < most_containers → IsContainer name → IsValidContainer c → IsValid (insert state name c)
+IsValid-added state valid name c absent room lawful ok =
     let longer : len (insert state name c) ≡ len state + 1 = len-insert name_total state name c ∙ ap (λ o. cond (is_some o) (len state) (len state + 1)) absent in
-    record { bound = omega (arith, longer, room); each = inserted_each state valid name c ok }
+    record { bound = omega (arith, longer, room); names = inserted_names state valid name c lawful; each = inserted_each state valid name c ok }
 
 module _ (list : List NamedContainer) (kept : IsKept list) (name : List ℕ) (at : ℕ) (stands : StandsAt name_cmp kept_name list name at) (named : NamedContainer) (is : named ≡ get_or list at named) where
   same_name : kept_name named ≡ name
@@ -166,10 +175,10 @@ module _ (list : List NamedContainer) (kept : IsKept list) where
     pub state_insert : state_of (lists.insert list at named) ≡ insert (state_of list) named.name named.container
     state_insert = map_of-insert name_total kept_name name_exact (λ n. n.container) list at named gap
 
-    pub IsKept-insert : length list < most_containers → IsValidContainer named.container → IsKept (lists.insert list at named)
-    IsKept-insert room ok = record {
+    pub IsKept-insert : length list < most_containers → IsContainer named.name → IsValidContainer named.container → IsKept (lists.insert list at named)
+    IsKept-insert room lawful ok = record {
       order = AreInOrder-insert name_total kept_name list kept.order at named gap;
-      valid = subst IsValid (sym state_insert) (IsValid-added (state_of list) kept.valid named.name named.container (state_absent list named.name at gap) (subst (λ n. n < most_containers) (sym len-state_of) room) ok);
+      valid = subst IsValid (sym state_insert) (IsValid-added (state_of list) kept.valid named.name named.container (state_absent list named.name at gap) (subst (λ n. n < most_containers) (sym len-state_of) room) lawful ok);
     }
 
   -- a boot of every container
@@ -189,11 +198,16 @@ module _ (list : List NamedContainer) (kept : IsKept list) where
   booted_each None each d e = absurd (none_is_some e)
   booted_each (Some c) each d e = subst IsValidContainer (some_inside e) (IsValidContainer-booted c (each c refl))
 
+  booted_names : (name : List ℕ) (c : Option Container) → get (state_of list) name ≡ c → (d : Container) → option_map booted c ≡ Some d → IsContainer name
+  booted_names name None there d e = absurd (none_is_some e)
+  booted_names name (Some c) there d e = kept.valid.names name c there
+
   pub IsKept-booted : IsKept (map booted_named list)
   IsKept-booted = record {
     order = order_booted;
     valid = record {
       bound = subst (λ n. n ≤ most_containers) (len-state_of ∙ sym (length-map list booted_named) ∙ sym (len-map_of name_total kept_name name_exact (λ n. n.container) (map booted_named list) order_booted)) kept.valid.bound;
+      names = λ name c e. booted_names name (get (state_of list) name) refl c (sym (get-map_values name_total name_exact (λ name. booted) (state_of list) name) ∙ ap (λ s. get s name) (sym state_booted) ∙ e);
       each = λ name c e. booted_each (get (state_of list) name) (kept.valid.each name) c (sym (get-map_values name_total name_exact (λ name. booted) (state_of list) name) ∙ ap (λ s. get s name) (sym state_booted) ∙ e);
     };
   }

@@ -5,11 +5,11 @@ use Rattle.std.specs.Ordering.{eq_by_cmp}
 use Rattle.std.specs.FinMap.{FinMap, get, insert, remove, contains_key, retain_keys, get-insert, get-remove, get-empty, get-retain_keys}
 use Rattle.acfg_base.specs.declared.releases.Kind.{Kind}
 use Rattle.acfg_base.specs.declared.releases.Kind.TheVariants.{ReadWrite, ReadOnly, Fixed}
-use Rattle.acfg_base.specs.Release.{Key, key_cmp, ReleaseMap}
+use Rattle.acfg_base.specs.Release.{Key, key_cmp, ReleaseMap, HasLawfulKeys, IsKey}
 use Rattle.acfg_base.proofs.Rows.{Equal_of}
 use Rattle.acfg_base.proofs.Keys.{key_total, key_exact}
 use Rattle.acfg_base.proofs.Maps.{get-map_values}
-use Rattle.acfg_model.specs.State.{BootedFlag, BootMap, Container, is_read_write, is_writable, pick, IsValidContainer}
+use Rattle.acfg_model.specs.State.{BootedFlag, BootMap, Container, is_read_write, is_writable, pick, IsDigest, IsValidContainer}
 use Rattle.acfg_model.specs.declared.changes.Change.{Change}
 use Rattle.acfg_model.specs.declared.changes.Change.TheVariants.{SetServer, SetLocal, UnsetLocal}
 use Rattle.acfg_model.specs.Step.{set_refusal, change_refusal, changed, boot_map, booted, booted_flag_of, with_release, fresh}
@@ -51,6 +51,9 @@ kept_at {X} m p k v e =
 module _ (c : Container) (valid : IsValidContainer c) where
   pub IsValidContainer-server : (key : Key) (value : Bool) → IsTrue (is_writable c.release key) → IsValidContainer (record c { server = insert c.server key value })
   IsValidContainer-server key value may = record {
+    digest = valid.digest;
+    keys = valid.keys;
+    booted = valid.booted;
     server = put_at (λ k. IsTrue (is_writable c.release k)) c.server key value may valid.server;
     local = valid.local;
     noted = valid.noted;
@@ -58,6 +61,9 @@ module _ (c : Container) (valid : IsValidContainer c) where
 
   pub IsValidContainer-local : (key : Key) (value : Bool) → IsTrue (is_writable c.release key) → IsValidContainer (record c { local = insert c.local key value })
   IsValidContainer-local key value may = record {
+    digest = valid.digest;
+    keys = valid.keys;
+    booted = valid.booted;
     server = valid.server;
     local = put_at (λ k. IsTrue (is_writable c.release k)) c.local key value may valid.local;
     noted = valid.noted;
@@ -65,6 +71,9 @@ module _ (c : Container) (valid : IsValidContainer c) where
 
   pub IsValidContainer-unset : (key : Key) → IsValidContainer (record c { local = remove c.local key })
   IsValidContainer-unset key = record {
+    digest = valid.digest;
+    keys = valid.keys;
+    booted = valid.booted;
     server = valid.server;
     local = taken_at (λ k. IsTrue (is_writable c.release k)) c.local key valid.local;
     noted = valid.noted;
@@ -75,8 +84,11 @@ module _ (c : Container) (valid : IsValidContainer c) where
   IsValidContainer-changed (SetLocal key value) may = IsValidContainer-local key value (writable_from_no_refusal c.release key may)
   IsValidContainer-changed (UnsetLocal key) may = IsValidContainer-unset key
 
-  pub IsValidContainer-with_release : (digest : List ℕ) (release : ReleaseMap) → IsValidContainer (with_release c digest release)
-  IsValidContainer-with_release digest release = record {
+  pub IsValidContainer-with_release : (digest : List ℕ) (release : ReleaseMap) → IsDigest digest → HasLawfulKeys release → IsValidContainer (with_release c digest release)
+  IsValidContainer-with_release digest release sized keys = record {
+    digest = sized;
+    keys = keys;
+    booted = valid.booted;
     server = λ k v e. kept_at c.server (is_writable release) k v e;
     local = λ k v e. kept_at c.local (is_writable release) k v e;
     noted = valid.noted;
@@ -96,6 +108,9 @@ module _ (c : Container) (valid : IsValidContainer c) where
 
   pub IsValidContainer-booted : IsValidContainer (booted c)
   IsValidContainer-booted = record {
+    digest = valid.digest;
+    keys = valid.keys;
+    booted = λ boot key flag is found. booted_key boot key flag (option_inside is) found;
     server = valid.server;
     local = valid.local;
     noted = λ boot key flag is found noted. booted_note boot key flag (option_inside is) found noted;
@@ -107,6 +122,13 @@ module _ (c : Container) (valid : IsValidContainer c) where
       flag_of : Key → Kind × Bool → BootedFlag
       flag_of = λ key facts. record { kind = facts.0; value = pick c key facts.1; server = contains_key c.server key; local = contains_key c.local key }
 
+      named : (key : Key) (flag : BootedFlag) (facts : Option (Kind × Bool)) → get c.release key ≡ facts → option_map (flag_of key) facts ≡ Some flag → IsKey key
+      named key flag None at e = cc
+      named key flag (Some facts) at e = valid.keys.each key facts at
+
+      booted_key : (boot : BootMap) (key : Key) (flag : BootedFlag) → boot_map c ≡ boot → get boot key ≡ Some flag → IsKey key
+      booted_key boot key flag is found = named key flag (get c.release key) refl (sym (get-map_values key_total key_exact flag_of c.release key) ∙ ap (λ m. get m key) is ∙ found)
+
       by_facts : (key : Key) (flag : BootedFlag) (facts : Option (Kind × Bool)) → get c.release key ≡ facts → option_map (flag_of key) facts ≡ Some flag → IsTrue (flag.server || flag.local) → IsTrue (is_read_write flag.kind)
       by_facts key flag None at e noted = cc
       by_facts key flag (Some facts) at e noted =
@@ -117,8 +139,11 @@ module _ (c : Container) (valid : IsValidContainer c) where
       booted_note boot key flag is found noted =
           by_facts key flag (get c.release key) refl (sym (get-map_values key_total key_exact flag_of c.release key) ∙ ap (λ m. get m key) is ∙ found) noted
 
-pub IsValidContainer-fresh : (digest : List ℕ) (release : ReleaseMap) → IsValidContainer (fresh digest release)
-IsValidContainer-fresh digest release = record {
+pub IsValidContainer-fresh : (digest : List ℕ) (release : ReleaseMap) → IsDigest digest → HasLawfulKeys release → IsValidContainer (fresh digest release)
+IsValidContainer-fresh digest release sized keys = record {
+  digest = sized;
+  keys = keys;
+  booted = λ boot key flag is. cc;
   server = λ k v e. absurd (none_is_some (sym (get-empty key_cmp k) ∙ e));
   local = λ k v e. absurd (none_is_some (sym (get-empty key_cmp k) ∙ e));
   noted = λ boot key flag is. cc;

@@ -1,5 +1,5 @@
 -- What the device keeps: the containers, each with its release, its overrides and perhaps its boot copy.
-use Rattle.std.specs.Prelude.{◌≡◌, ℕ, ◌≤◌, Bool, true, false, ◌||◌, List, Option, Some, IsTrue, unwrap_or}
+use Rattle.std.specs.Prelude.{◌≡◌, ℕ, ◌<◌, ◌≤◌, Bool, true, false, ◌||◌, List, length, All, Option, Some, IsTrue, unwrap_or}
 use Rattle.std.specs.Option.{option_map_or}
 use Rattle.std.specs.declared.cmp.Ordering.{Ordering}
 use Rattle.std.specs.Ordering.{nat_cmp}
@@ -7,7 +7,8 @@ use Rattle.std.specs.Cmp.Lexicographic.{slice_cmp}
 use Rattle.std.specs.FinMap.{FinMap, get, len}
 use Rattle.acfg_base.specs.declared.releases.Kind.{Kind}
 use Rattle.acfg_base.specs.declared.releases.Kind.TheVariants.{ReadWrite, ReadOnly, Fixed}
-use Rattle.acfg_base.specs.Release.{Key, key_cmp, ReleaseMap}
+use Rattle.acfg_base.specs.Names.{IsContainer}
+use Rattle.acfg_base.specs.Release.{Key, key_cmp, ReleaseMap, HasLawfulKeys, IsKey}
 
 -- flags and the values that override those of the release
 abbrev pub OverrideMap : Type 0
@@ -54,8 +55,18 @@ is_writable release key = option_map_or (λ facts. is_read_write facts.0) (get r
 abbrev pub pick : Container → Key → Bool → Bool
 pick container key value = unwrap_or (get container.local key) (unwrap_or (get container.server key) value)
 
--- overrides stand on read-write flags of the release, and notes on read-write flags of the boot copy
+-- 32 bytes
+pub record IsDigest (digest : List ℕ) : Type 0 where
+  pub size : length digest ≡ 32
+  pub bytes : All (λ byte. byte < 256) digest
+
+-- The digest has 32 bytes, and the keys of the release and of the boot copy are lawful; overrides stand on read-write
+-- flags of the release, and notes on read-write flags of the boot copy.
 pub record IsValidContainer (container : Container) : Type 0 where
+  pub digest : IsDigest container.digest
+  pub keys : HasLawfulKeys container.release
+  pub booted : (boot : BootMap) (key : Key) (flag : BootedFlag) → container.boot ≡ Some boot → get boot key ≡ Some flag
+      → IsKey key
   pub server : (key : Key) (value : Bool) → get container.server key ≡ Some value
       → IsTrue (is_writable container.release key)
   pub local : (key : Key) (value : Bool) → get container.local key ≡ Some value
@@ -69,4 +80,5 @@ most_containers = 256
 
 pub record IsValid (state : State) : Type 0 where
   pub bound : len state ≤ most_containers
+  pub names : (name : List ℕ) (container : Container) → get state name ≡ Some container → IsContainer name
   pub each : (name : List ℕ) (container : Container) → get state name ≡ Some container → IsValidContainer container

@@ -2,10 +2,10 @@
 
 ghost use Rattle.std.specs.Prelude.{◌≡◌, IfOk, OnOk, OnErr, map, option_map};
 ghost use Rattle.acfg_base.specs.Places.{AreInOrder, map_where};
-ghost use Rattle.acfg_base.specs.Release.{key_cmp, entries_of};
+ghost use Rattle.acfg_base.specs.Release.{key_cmp, entries_of, HasLawfulKeys};
 ghost use Rattle.acfg_model.specs.FlagStates.{row_key, release_in, booted_row, carried_row, changed_row, override_in};
 ghost use Rattle.acfg_model.specs.FlagStates.{IsChangeable, IsOutcome, IsSettable, IsUnsettable};
-ghost use Rattle.acfg_model.specs.State.{IsValidContainer};
+ghost use Rattle.acfg_model.specs.State.{IsDigest, IsValidContainer};
 ghost use Rattle.acfg_model.specs.Step.{boot_map, booted, boot_value_in, fresh, with_change, with_release};
 ghost use Rattle.acfg_model.specs.Views.{boot_of, overrides_of, container_of};
 
@@ -139,9 +139,11 @@ impl Container {
 
     /// The container of a release, with no override and no boot copy.
     pub fn new(alloc: Global, digest: [u8; 32], release: Release) -> Result<Container, AllocError>
+        requires { HasLawfulKeys release }
         ensures made { IfOk result (λ made. made ≡ fresh digest release) }
         ensures valid { IfOk result IsValidContainer }
     {
+        is_digest(&digest);
         let rows = rows_of(alloc, release, &[])?;
         Ok(Container {
             digest,
@@ -157,10 +159,12 @@ impl Container {
         digest: [u8; 32],
         release: Release,
     ) -> Result<(), AllocError>
+        requires { HasLawfulKeys release }
         ensures ok { OnOk result (self.new ≡ with_release self.old digest release) }
         ensures err { OnErr result (self.new ≡ self.old) }
         ensures valid { IsValidContainer self.new }
     {
+        is_digest(&digest);
         let rows = rows_of(alloc, release, &self.rows)?;
         self.digest = digest;
         self.rows = rows;
@@ -229,6 +233,13 @@ fn copied(alloc: Global, copy: &BootCopy) -> Result<BootCopy, AllocError>
 {
     let flags = copy.as_slice().to_vec(alloc)?;
     Ok(InOrder::from_sorted(flags))
+}
+
+// A digest has 32 bytes, by its type.
+fn is_digest(digest: &[u8; 32])
+    ensures { IsDigest digest.now }
+{
+    let _bytes = digest.as_slice();
 }
 
 // The release of the rows.

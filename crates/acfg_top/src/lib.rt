@@ -5,6 +5,8 @@ mod ending;
 mod flags;
 mod rehearsal;
 #[cfg(test)]
+mod script_tests;
+#[cfg(test)]
 mod tests;
 mod told;
 mod top;

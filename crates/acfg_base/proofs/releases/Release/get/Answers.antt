@@ -10,7 +10,7 @@ pub returns-in-Ok : goal.returns-in-Ok
 returns-in-Ok c =
     let key : Key = (c.args.package.now, c.args.flag.now) in
     let at = subst (λ es. StandsAt key_cmp key_of es key c.in-Ok.at) c.deref.ensures.value c.in-Ok.ensures in
-    let found = row_at-stands key_total key_of _ c.self.invariant key c.in-Ok.at c.index-entry.result.now at in
+    let found = row_at-stands key_total key_of _ c.self.invariant.order key c.in-Ok.at c.index-entry.result.now at in
     ap (λ e. Some (facts_of e)) c.index-entry.ensures ∙ ap (option_map facts_of) (sym found) ∙ sym (get-map_of key_total key_of facts_of _ key) ∙ ap (λ m. get m key) c.self.view_is
 
 pub returns-in-Err : goal.returns-in-Err

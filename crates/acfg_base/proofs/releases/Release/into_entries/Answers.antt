@@ -4,4 +4,4 @@ use Rattle.acfg_base.proofs.Keys.{entries_of-release_of}
 use Rattle.acfg_base.proofs.releases.Release.into_entries.Goals as goal
 
 pub returns-clause-all : goal.returns-clause-all
-returns-clause-all c = sym (entries_of-release_of _ c.self.invariant) ∙ ap entries_of c.self.view_is
+returns-clause-all c = sym (entries_of-release_of _ c.self.invariant.order) ∙ ap entries_of c.self.view_is

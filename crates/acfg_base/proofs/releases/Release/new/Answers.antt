@@ -1,6 +1,6 @@
 use Rattle.std.proofs.Common.{subst, true≢false, refl}
 use Rattle.acfg_base.specs.Places.{AreInOrder}
-use Rattle.acfg_base.specs.Release.{key_cmp, key_of}
+use Rattle.acfg_base.specs.Release.{key_cmp, key_of, AreNamed}
 use Rattle.acfg_base.specs.Bodies.{SomeStepDown}
 use Rattle.acfg_base.proofs.Keys.{no_twins, twins_found, release_permuted}
 use Rattle.acfg_base.proofs.releases.Release.new.Goals as goal
@@ -11,7 +11,10 @@ returns-then-not-rise-clause-twins c =
     (λ _. twins_found _ _ c.sort.ensures.permutation c.sort.ensures.sorted stop, λ _. refl)
 
 pub invariant_of-result : goal.invariant_of-result
-invariant_of-result c = subst (AreInOrder key_cmp key_of) c.deref.ensures.value c.if-not-rise.ensures
+invariant_of-result c = record {
+  order = subst (AreInOrder key_cmp key_of) c.deref.ensures.value c.if-not-rise.ensures;
+  named = subst AreNamed c.deref-2.ensures.value c.are_named.ensures;
+}
 
 pub returns-clause-twins : goal.returns-clause-twins
 returns-clause-twins c =

@@ -9,7 +9,7 @@ use Rattle.acfg_model.proofs.containers.Container.set_release.Goals as goal
 pub invariant_of-self : goal.invariant_of-self
 invariant_of-self c =
     let made : c.in_ok-rows.rows.items ≡ map (carried_row c.self.inside.rows.items) (entries_of c.args.release) = c.in_ok-rows.ensures ∙ ap (λ old. map (carried_row old) (entries_of c.args.release)) c.deref.ensures.value in
-    subst (λ rows. IsLawful rows (container_in c.args.digest rows (option_map boot_of c.self.inside.boot))) (sym made) (lawful-with_release c.self.inside.rows.items c.self.invariant.order c.args.release c.args.digest c.self.inside.digest (option_map boot_of c.self.inside.boot) c.self.invariant.valid)
+    subst (λ rows. IsLawful rows (container_in c.args.digest rows (option_map boot_of c.self.inside.boot))) (sym made) (lawful-with_release c.self.inside.rows.items c.self.invariant.order c.args.release c.args.digest c.self.inside.digest (option_map boot_of c.self.inside.boot) c.is_digest.ensures c.requires c.self.invariant.valid)
 
 pub returns-clause-ok : goal.returns-clause-ok
 returns-clause-ok c =
@@ -21,4 +21,4 @@ returns-clause-ok c =
 pub returns-clause-valid : goal.returns-clause-valid
 returns-clause-valid c =
     let made : c.in_ok-rows.rows.items ≡ map (carried_row c.self.inside.rows.items) (entries_of c.args.release) = c.in_ok-rows.ensures ∙ ap (λ old. map (carried_row old) (entries_of c.args.release)) c.deref.ensures.value in
-    (subst (λ rows. IsLawful rows (container_in c.args.digest rows (option_map boot_of c.self.inside.boot))) (sym made) (lawful-with_release c.self.inside.rows.items c.self.invariant.order c.args.release c.args.digest c.self.inside.digest (option_map boot_of c.self.inside.boot) c.self.invariant.valid)).valid
+    (subst (λ rows. IsLawful rows (container_in c.args.digest rows (option_map boot_of c.self.inside.boot))) (sym made) (lawful-with_release c.self.inside.rows.items c.self.invariant.order c.args.release c.args.digest c.self.inside.digest (option_map boot_of c.self.inside.boot) c.is_digest.ensures c.requires c.self.invariant.valid)).valid

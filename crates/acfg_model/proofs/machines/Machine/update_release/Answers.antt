@@ -1,5 +1,6 @@
 use Rattle.std.proofs.Common.{◌≤◌, ◌<◌, length, set, bytes_eq, refl, sym, ap, subst, ◌∙◌, arith}
 use Rattle.std.specs.FinMap.{get, insert, len}
+use Rattle.acfg_base.specs.Names.{IsContainer}
 use Rattle.acfg_base.specs.Places.{StandsAt, WouldStandAt}
 use Rattle.acfg_model.specs.declared.machines.NamedContainer.{NamedContainer}
 use Rattle.acfg_model.specs.declared.requests.Reply.TheVariants.{Refused, Updated, Unchanged}
@@ -36,7 +37,7 @@ returns-in_ok-set_release-in-Ok-clause-ok c =
     ap (λ (s : State). release_step s c.args.name.now c.args.digest c.args.release (get s c.args.name.now)) (sym c.self.view_is)
     ∙ release_step-with_release (state_of list) c.args.name.now c.args.digest c.args.release named.container there apart
     ∙ ap (λ s. pair_of s (Updated c.args.digest (len c.args.release))) (sym made)
-    ∙ ap (λ n. pair_of (state_of (set list c.in-Ok.at (record { name = named.name; container = c.set_release.new.self }))) (Updated c.args.digest n)) (sym c.len-count.ensures)
+    ∙ ap (λ n. pair_of (state_of (set list c.in-Ok.at (record { name = named.name; container = c.set_release.new.self }))) (Updated c.args.digest n)) (sym c.len-count.ensures.count)
 
 pub returns-then-as_slice-ge-MOST_CONTAINERS-clause-ok : goal.returns-then-as_slice-ge-MOST_CONTAINERS-clause-ok
 returns-then-as_slice-ge-MOST_CONTAINERS-clause-ok c =
@@ -56,7 +57,7 @@ invariant_of-self-in-Err c =
     let gap = subst (λ rows. WouldStandAt name_cmp kept_name rows c.args.name.now c.in-Err.at) c.deref.ensures.value (subst (λ name. WouldStandAt name_cmp kept_name c.deref.result.now name c.in-Err.at) c.as_str.ensures.text c.in-Err.ensures) in
     let here : WouldStandAt name_cmp kept_name list named.name c.in-Err.at = subst (λ name. WouldStandAt name_cmp kept_name list name c.in-Err.at) (sym c.in_ok-name-in-Err.ensures.cases) gap in
     let room : length list < 256 = omega (arith, ap length c.as_slice.ensures.value, c.if-as_slice-ge-MOST_CONTAINERS.false) in
-    subst IsKept (sym c.in_ok-insert-in-Err.ensures.items) (IsKept-insert list c.self.invariant named c.in-Err.at here room c.in_ok-container-in-Err.ensures.valid)
+    subst IsKept (sym c.in_ok-insert-in-Err.ensures.items) (IsKept-insert list c.self.invariant named c.in-Err.at here room (subst IsContainer (sym c.in_ok-name-in-Err.ensures.cases) c.as_str.ensures.lawful) c.in_ok-container-in-Err.ensures.valid)
 
 pub returns-in_ok-insert-in-Err-clause-ok : goal.returns-in_ok-insert-in-Err-clause-ok
 returns-in_ok-insert-in-Err-clause-ok c =
@@ -71,4 +72,4 @@ returns-in_ok-insert-in-Err-clause-ok c =
     ap (λ (s : State). release_step s c.args.name.now c.args.digest c.args.release (get s c.args.name.now)) (sym c.self.view_is)
     ∙ release_step-added (state_of list) c.args.name.now c.args.digest c.args.release absent room
     ∙ ap (λ s. pair_of s (Updated c.args.digest (len c.args.release))) (sym made)
-    ∙ ap (λ n. pair_of (state_of c.insert.new.self.items) (Updated c.args.digest n)) (sym c.len-count.ensures)
+    ∙ ap (λ n. pair_of (state_of c.insert.new.self.items) (Updated c.args.digest n)) (sym c.len-count.ensures.count)
