@@ -122,5 +122,5 @@ module _ («package» : List ℕ) (places : BTreeMap (Bor (List ℕ)) ℕ) (flag
         let (k, flag, low, is, of) = frees.fixed in
         let here = only_it container values declared made k flag low (sym (ap (λ f. f.1.name.text) is ∙ of.0)) in
         let fixed : (get_or flags i blank).fixed ≡ true =
-            its_fixed container values declared made flag ∙ ap (λ n. (get_or declared n flag).1.fixed) (sym here) ∙ ap (λ f. f.1.fixed) is ∙ of.1 in
+        its_fixed container values declared made flag ∙ ap (λ n. (get_or declared n flag).1.fixed) (sym here) ∙ ap (λ f. f.1.fixed) is ∙ of.1 in
         true≢false (sym (both _ _ fixed frees.writable) ∙ safe)

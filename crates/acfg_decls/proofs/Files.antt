@@ -75,7 +75,7 @@ declared_next «package» container before flags after files i file within is ol
     let make = flag_of «package» container [] in
     let of = λ (f : DeclarationsFile). map (λ flag. (f.source, flag)) f.flags in
     let one : declared (take (i + 1) files) ≡ declared (take i files) ++ of file =
-        ap declared (take_more files i file within ∙ ap (λ f. take i files ++ f ∷ []) (sym is)) ∙ flat_map-append of (take i files) (file ∷ []) ∙ ap (λ fs. declared (take i files) ++ fs) (append-nil (of file)) in
+    ap declared (take_more files i file within ∙ ap (λ f. take i files ++ f ∷ []) (sym is)) ∙ flat_map-append of (take i files) (file ∷ []) ∙ ap (λ fs. declared (take i files) ++ fs) (append-nil (of file)) in
     new ∙ ap (λ fs. fs ++ map (λ flag. make (file.source, flag)) file.flags) old ∙ append_assoc before (map make (declared (take i files))) _
     ∙ ap (λ fs. before ++ (map make (declared (take i files)) ++ fs)) (sym (map-map make (λ flag. (file.source, flag)) file.flags))
     ∙ ap (λ fs. before ++ fs) (sym (map-append make (declared (take i files)) (of file)) ∙ ap (map make) (sym one))

@@ -1,6 +1,7 @@
 mod Applied
 mod Blank
 mod Distinct
+mod Few
 mod Files
 mod Fronts
 mod Named

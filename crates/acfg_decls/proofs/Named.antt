@@ -31,9 +31,9 @@ text_cmp a b = slice_cmp nat_cmp a.now b.now
 -- two texts are one, or they differ and the test says so
 same_or_apart : (a b : List ℕ) → ((a ≡ b) × (bytes_eq a b ≡ true)) ⊎ ((a ≡ b → ⊥) × (bytes_eq a b ≡ false))
 same_or_apart a b = elim (bytes_eq a b) as (λ t. bytes_eq a b ≡ t → ((a ≡ b) × (t ≡ true)) ⊎ ((a ≡ b → ⊥) × (t ≡ false))) [
-    | true ↦ λ is. inl ((bytes_eq-Decides a b).0 is, refl)
-    | false ↦ λ is. inr ((λ e. true≢false (sym ((bytes_eq-Decides a b).1 e) ∙ is)), refl)
-  ] refl
+  | true ↦ λ is. inl ((bytes_eq-Decides a b).0 is, refl)
+  | false ↦ λ is. inr ((λ e. true≢false (sym ((bytes_eq-Decides a b).1 e) ∙ is)), refl)
+] refl
 
 -- a name more
 pub finds_next : (places next : BTreeMap (Bor (List ℕ)) ℕ) (names : List (List ℕ)) (key : Bor (List ℕ)) → Finds places names → at places key.now ≡ None
@@ -46,26 +46,26 @@ finds_next places next names key finds missed updates = record { there = there; 
     there : (i : ℕ) → i < length (names ++ key.now ∷ []) → at next (get_or (names ++ key.now ∷ []) i []) ≡ Some i
     there i within = ⊎_elim
         (λ old.
-            let here : get_or (names ++ key.now ∷ []) i [] ≡ get_or names i [] = get_or_append_left names (key.now ∷ []) [] i old in
-            let found = finds.there i old in
-            let apart : bytes_eq key.now (get_or names i []) ≡ false = ⊎_elim (λ same. let contrary = sym missed ∙ ap (at places) same.0 ∙ found in cc) (λ differ. differ.1) (same_or_apart key.now (get_or names i [])) in
-            ap (at next) here ∙ after (get_or names i []) ∙ ap (λ b. cond b (Some (length names)) (at places (get_or names i []))) apart ∙ found)
+        let here : get_or (names ++ key.now ∷ []) i [] ≡ get_or names i [] = get_or_append_left names (key.now ∷ []) [] i old in
+        let found = finds.there i old in
+        let apart : bytes_eq key.now (get_or names i []) ≡ false = ⊎_elim (λ same. let contrary = sym missed ∙ ap (at places) same.0 ∙ found in cc) (λ differ. differ.1) (same_or_apart key.now (get_or names i [])) in
+        ap (at next) here ∙ after (get_or names i []) ∙ ap (λ b. cond b (Some (length names)) (at places (get_or names i []))) apart ∙ found)
         (λ late.
-            let last : i ≡ length names = omega (arith, length-append names (key.now ∷ [])) in
-            let here : get_or (names ++ key.now ∷ []) i [] ≡ key.now = ap (λ n. get_or (names ++ key.now ∷ []) n []) last ∙ get_or-append_seam names key.now [] [] in
-            let same : bytes_eq key.now key.now ≡ true = (bytes_eq-Decides key.now key.now).1 refl in
-            ap (at next) here ∙ after key.now ∙ ap (λ b. cond b (Some (length names)) (at places key.now)) same ∙ ap Some (sym last))
+        let last : i ≡ length names = omega (arith, length-append names (key.now ∷ [])) in
+        let here : get_or (names ++ key.now ∷ []) i [] ≡ key.now = ap (λ n. get_or (names ++ key.now ∷ []) n []) last ∙ get_or-append_seam names key.now [] [] in
+        let same : bytes_eq key.now key.now ≡ true = (bytes_eq-Decides key.now key.now).1 refl in
+        ap (at next) here ∙ after key.now ∙ ap (λ b. cond b (Some (length names)) (at places key.now)) same ∙ ap Some (sym last))
         (cases_lt i (length names))
 
     only : (bytes : List ℕ) (i : ℕ) → at next bytes ≡ Some i → (i < length (names ++ key.now ∷ [])) × (get_or (names ++ key.now ∷ []) i [] ≡ bytes)
     only bytes i found = ⊎_elim
         (λ same.
-            let is : Some (length names) ≡ Some i = ap (λ b. cond b (Some (length names)) (at places bytes)) (sym same.1) ∙ sym (after bytes) ∙ found in
-            let last : length names ≡ i = cc in
-            (omega (arith, length-append names (key.now ∷ [])), ap (λ n. get_or (names ++ key.now ∷ []) n []) (sym last) ∙ get_or-append_seam names key.now [] [] ∙ same.0))
+        let is : Some (length names) ≡ Some i = ap (λ b. cond b (Some (length names)) (at places bytes)) (sym same.1) ∙ sym (after bytes) ∙ found in
+        let last : length names ≡ i = cc in
+        (omega (arith, length-append names (key.now ∷ [])), ap (λ n. get_or (names ++ key.now ∷ []) n []) (sym last) ∙ get_or-append_seam names key.now [] [] ∙ same.0))
         (λ differ.
-            let old = finds.only bytes i (ap (λ b. cond b (Some (length names)) (at places bytes)) (sym differ.1) ∙ sym (after bytes) ∙ found) in
-            (omega (arith, length-append names (key.now ∷ []), old.0), get_or_append_left names (key.now ∷ []) [] i old.0 ∙ old.1))
+        let old = finds.only bytes i (ap (λ b. cond b (Some (length names)) (at places bytes)) (sym differ.1) ∙ sym (after bytes) ∙ found) in
+        (omega (arith, length-append names (key.now ∷ []), old.0), get_or_append_left names (key.now ∷ []) [] i old.0 ∙ old.1))
         (same_or_apart key.now bytes)
 
 -- what the map had at a text before it was put in

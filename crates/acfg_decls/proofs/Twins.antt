@@ -37,6 +37,15 @@ module _ {K Y : Type 0} {R : K → K → Ordering} (o : IsTotalOrder R) (key : Y
       omega (arith, counted, some_counted q ys 0 d (omega arith) more)
   two_counted q (y ∷ ys) (suc i) d within has more = omega (arith, count_by-cons q y ys, two_counted q ys i d (omega arith) has more)
 
+  -- two rows with the key, one behind the other
+  pub far_counted : (q : K) (ys : List Y) (i j : ℕ) (d : Y) → i < j → j < length ys → has_key q (get_or ys i d) ≡ true → has_key q (get_or ys j d) ≡ true → 1 < count_by (has_key q) ys
+  far_counted q [] i j d apart within has more = absurd (omega arith)
+  far_counted q (y ∷ ys) i zero d apart within has more = absurd (omega arith)
+  far_counted q (y ∷ ys) zero (suc j) d apart within has more =
+      let counted = count_by-cons q y ys ∙ ap (λ b. cond b 1 0 + count_by (has_key q) ys) has in
+      omega (arith, counted, some_counted q ys j d (omega arith) more)
+  far_counted q (y ∷ ys) (suc i) (suc j) d apart within has more = omega (arith, count_by-cons q y ys, far_counted q ys i j d (omega arith) (omega arith) has more)
+
   none_counted : (q low : K) (ys : List Y) → R q low ≡ Equal → T (below_all R low (map (λ y. (key y, y)) ys)) → count_by (has_key q) ys ≡ 0
   none_counted q low [] same below = refl
   none_counted q low (y ∷ ys) same below =

@@ -35,8 +35,8 @@ number_of words word = found word (numbers words)
 abbrev pub digit : ℕ → ℕ → Option ℕ
 digit base byte =
     let value =
-        if nat_le 48 byte && nat_le byte 57 then byte - 48
-        else (if nat_le 97 byte && nat_le byte 102 then byte - 87 else (if nat_le 65 byte && nat_le byte 70 then byte - 55 else 16)) in
+    if nat_le 48 byte && nat_le byte 57 then byte - 48
+    else (if nat_le 97 byte && nat_le byte 102 then byte - 87 else (if nat_le 65 byte && nat_le byte 70 then byte - 55 else 16)) in
     if nat_lt value base then Some value else None
 
 -- digits of a base, behind those that make this number

@@ -37,7 +37,14 @@ pub fn compile(
 {
     let mut flags = Vec::new(alloc);
     let mut places = BTreeMap::new(alloc);
-    declare_all(alloc, package, container, declarations, &mut places, &mut flags)?;
+    declare_all(
+        alloc,
+        package,
+        container,
+        declarations,
+        &mut places,
+        &mut flags,
+    )?;
     set_all(package, declarations.len(), values, &places, &mut flags)?;
     match Flags::new(alloc, flags)? {
         Some(flags) => Ok(flags),

@@ -11,7 +11,9 @@ use crate::declared::{DeclarationsFile, DeclaredFlag, Placed};
 use crate::faults::{DeclFault, DeclWhat};
 use crate::flags::{Flag, Point};
 use crate::own::read_container;
-use acfg_base::{ContainerName, Name, PackageName, Sequence, Text, is_container, is_name, is_package};
+use acfg_base::{
+    ContainerName, Name, PackageName, Sequence, Text, is_container, is_name, is_package,
+};
 use std::alloc::{AllocError, Global};
 use std::collections::BTreeMap;
 
@@ -56,7 +58,10 @@ fn declare_flag<'a>(
     ensures err { IfErr result (λ fault. IfAt fault (FirstFails (tests_behind (names flags.old.items) flag.now))) }
 {
     let (name, namespace) = test_flag(alloc, flag)?;
-    if places.insert(flag.name.text.as_str(), flags.len())?.is_some() {
+    if places
+        .insert(flag.name.text.as_str(), flags.len())?
+        .is_some()
+    {
         return Err(DeclFault::At(flag.place, DeclWhat::Declared));
     }
     if flags.len() >= MOST_FLAGS {
@@ -67,7 +72,11 @@ fn declare_flag<'a>(
 }
 
 // Tests the package and the container that a file names.
-fn test_header(package: &PackageName, container: &ContainerName, file: &DeclarationsFile) -> Result<(), DeclFault>
+fn test_header(
+    package: &PackageName,
+    container: &ContainerName,
+    file: &DeclarationsFile,
+) -> Result<(), DeclFault>
     ensures ok { OnOk result (AllByRecursion Holds (header_tests «package».now container.now file.now)) }
     ensures err { IfErr result (λ fault. IfAt fault (FirstFails (header_tests «package».now container.now file.now))) }
 {

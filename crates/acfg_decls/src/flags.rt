@@ -1,15 +1,15 @@
 //! Compiled flags.
 
-ghost use Rattle.std.specs.Prelude.{◌≡◌, All, Any, IfOk, IfSome, MatchOption, IsPermutation, IsSortedByKey};
+ghost use Rattle.std.specs.Prelude.{◌≡◌, All, Any, IfOk, IfSome, MatchOption, map, IsPermutation, IsSortedByKey};
 ghost use Rattle.std.specs.Bool.{MatchBool};
 ghost use Rattle.std.specs.Cmp.Lexicographic.{slice_cmp};
 ghost use Rattle.std.specs.Ordering.{nat_cmp};
 ghost use Rattle.acfg_base.specs.Places.{AreInOrder};
-ghost use Rattle.acfg_decls.specs.Releases.{kind_of};
+ghost use Rattle.acfg_decls.specs.Releases.{entry_of, kind_of, release};
 ghost use Rattle.acfg_decls.specs.Flags.{AreFlags, AreNoFlags, IsLawful, full_name, SomeStepDown};
 
 use crate::order::compare_joined;
-use acfg_base::{ContainerName, Kind, Name, OutOfMemory, PackageName, Sequence, Text};
+use acfg_base::{ContainerName, Entry, Kind, Name, OutOfMemory, PackageName, Release, Sequence, Text};
 use std::alloc::{AllocError, Global};
 use std::cmp::Ordering;
 use std::marker::Model;
@@ -173,6 +173,18 @@ impl Flags {
         list
     }
 
+    /// The release that the flags make: each one's kind and state.
+    pub fn release(&self, alloc: Global) -> Result<Release, OutOfMemory>
+        ensures { IfOk result (λ made. made ≡ release self.now) }
+    {
+        let _ = &self.list;
+        let entries = list_entries(alloc, &self.list)?;
+        match Release::new(alloc, entries)? {
+            Some(made) => Ok(made),
+            None => unreachable!(),
+        }
+    }
+
     /// The flags, in order.
     pub fn list(&self) -> &[Flag]
         ensures all { result.now ≡ self.now }
@@ -180,6 +192,27 @@ impl Flags {
     {
         self.list.as_slice()
     }
+}
+
+fn list_entries(alloc: Global, list: &[Flag]) -> Result<Vec<Entry>, AllocError>
+    ensures { IfOk result (λ entries. entries.items ≡ map entry_of list.now) }
+{
+    let mut entries = Vec::with_capacity(alloc, list.len())?;
+    for flag in list {
+        entries.push(make_entry(flag)?)?;
+    }
+    Ok(entries)
+}
+
+fn make_entry(flag: &Flag) -> Result<Entry, AllocError>
+    ensures { IfOk result (λ entry. entry ≡ entry_of flag.now) }
+{
+    Ok(Entry {
+        package: flag.package.clone()?,
+        flag: flag.name.clone()?,
+        kind: flag.kind(),
+        value: flag.enabled,
+    })
 }
 
 // Whether each flag is lawful.

@@ -1,6 +1,6 @@
 //! Laws of the definitions: compiling has one answer.
 
-ghost use Rattle.std.specs.Prelude.{◌≡◌, ℕ, List};
+ghost use Rattle.std.specs.Prelude.{◌≡◌, ◌≤◌, ℕ, List, length};
 ghost use Rattle.std.specs.List.{AllByRecursion};
 ghost use Rattle.acfg_decls.specs.declared.flags.Flag.{Flag};
 ghost use Rattle.acfg_decls.specs.declared.declared.DeclarationsFile.{DeclarationsFile};
@@ -9,7 +9,7 @@ ghost use Rattle.acfg_decls.specs.declared.faults.DeclWhat.{DeclWhat};
 ghost use Rattle.acfg_decls.specs.Compile.{Compiles, FailsToCompile, Holds, all_tests};
 
 /// Declarations and values compile to one list of flags or have one first fault, never both; and where they have no
-/// first fault, all their tests hold.
+/// first fault, all their tests hold. Compiled flags are at most 65,535.
 pub fn one_compiling()
     ensures compiles { («package» container : List ℕ) (files : List DeclarationsFile) (values : List ValuesFile) (flags other : List Flag)
         → Compiles «package» container files values flags → Compiles «package» container files values other → flags ≡ other }
@@ -22,4 +22,6 @@ pub fn one_compiling()
     ensures some { («package» container : List ℕ) (files : List DeclarationsFile) (values : List ValuesFile)
         → (AllByRecursion (AllByRecursion Holds) (all_tests «package» container files values) → ⊥)
         → ((file place : ℕ) (fault : DeclWhat) → FailsToCompile «package» container files values file place fault → ⊥) → ⊥ }
+    ensures few { («package» container : List ℕ) (files : List DeclarationsFile) (values : List ValuesFile) (flags : List Flag)
+        → Compiles «package» container files values flags → length flags ≤ 65535 }
 {}

@@ -43,5 +43,11 @@ pub fn compile_own(alloc: Global, declarations: &Declarations) -> Result<Flags, 
     let Some(container) = ContainerName::parse(alloc, read_container(named.text.as_str()))? else {
         unreachable!()
     };
-    compile(alloc, &package, &container, slice::from_ref(declarations), &[])
+    compile(
+        alloc,
+        &package,
+        &container,
+        slice::from_ref(declarations),
+        &[],
+    )
 }

@@ -13,7 +13,11 @@ use acfg_text::{Item, Tree, Value};
 use std::alloc::{AllocError, Global};
 
 /// What a declarations file has, of a tree in which the walk finds no fault.
-pub fn declarations_of(alloc: Global, source: &str, tree: &Tree) -> Result<DeclarationsFile, AllocError>
+pub fn declarations_of(
+    alloc: Global,
+    source: &str,
+    tree: &Tree,
+) -> Result<DeclarationsFile, AllocError>
     ensures { IfOk result (λ file. file ≡ declarations_in source.now tree.now) }
 {
     let items = tree.items.as_slice();
@@ -121,7 +125,11 @@ fn flags_in(alloc: Global, items: &[Item]) -> Result<Sequence<DeclaredFlag>, All
     Ok(flags)
 }
 
-fn add_flags(alloc: Global, values: &[Value], flags: &mut Sequence<DeclaredFlag>) -> Result<(), AllocError>
+fn add_flags(
+    alloc: Global,
+    values: &[Value],
+    flags: &mut Sequence<DeclaredFlag>,
+) -> Result<(), AllocError>
     ensures { OnOk result (flags.new ≡ flags.old ++ filter_map flag_at values.now) }
 {
     for value in values {
@@ -153,7 +161,11 @@ fn purpose_in(items: &[Item]) -> Option<Purpose>
     ensures { result ≡ option_and_then metadata_purpose (value_in (codes "metadata") items.now) }
 {
     match value_in("metadata", items) {
-        Some(Value::Message(_, tree)) => match number_in(Words::Purposes, "purpose", tree.items.as_slice()) {
+        Some(Value::Message(_, tree)) => match number_in(
+            Words::Purposes,
+            "purpose",
+            tree.items.as_slice(),
+        ) {
             1 => Some(Purpose::Feature),
             2 => Some(Purpose::Bugfix),
             _ => Some(Purpose::Unspecified),

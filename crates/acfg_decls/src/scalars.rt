@@ -91,9 +91,5 @@ fn read_digit(base: u64, byte: u8) -> Option<u64>
         _ => 16,
     };
     let value = u64::from(value);
-    if value < base {
-        Some(value)
-    } else {
-        None
-    }
+    if value < base { Some(value) } else { None }
 }

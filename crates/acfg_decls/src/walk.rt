@@ -33,7 +33,12 @@ pub fn first_fault(depth: usize, message: Message, tree: &Tree) -> Option<(usize
 
 // The first fault of a field behind others, and of the messages in it.
 #[cycle(walking)]
-fn item_fault(depth: usize, message: Message, earlier: &[Item], item: &Item) -> Option<(usize, DeclWhat)>
+fn item_fault(
+    depth: usize,
+    message: Message,
+    earlier: &[Item],
+    item: &Item,
+) -> Option<(usize, DeclWhat)>
     ensures { result ≡ first (item_faults (walk depth) message earlier.now item.now) }
 {
     let Some(field) = find_field(message, item.name.as_str()) else {
@@ -113,8 +118,13 @@ fn is_whole(message: Message, items: &[Item]) -> bool
 {
     match message {
         Message::FlagDeclarations => stands("package", items),
-        Message::Flag => stands("name", items) && stands("namespace", items) && stands("description", items),
+        Message::Flag => stands("name", items)
+            && stands("namespace", items)
+            && stands("description", items),
         Message::Metadata | Message::FlagValues => true,
-        Message::FlagValue => stands("package", items) && stands("name", items) && stands("state", items) && stands("permission", items),
+        Message::FlagValue => stands("package", items)
+            && stands("name", items)
+            && stands("state", items)
+            && stands("permission", items),
     }
 }

@@ -34,9 +34,9 @@ returns-in_err-set_all-clause-err c =
     let made = c.in_ok-declare_all.ensures.flags ∙ ap (λ flags. flags ++ map (flag_of asked container []) (declared files)) c.new-flags.ensures.items in
     rw (p.1, p.2) (in_weaker c.in_err-set_all.field-0.0 _ (FailsToCompile asked container files values)
     (λ file place what fails.
-        in_behind 0 (declarations_tests asked container [] files) (map (file_tests asked (declared files)) values) file place what
-        (subst (λ flags. AllByRecursion (AllByRecursion Holds) (declarations_tests asked container (names flags) files)) c.new-flags.ensures.items c.in_ok-declare_all.ensures.passed)
-        (subst (λ n. FirstFailsIn n (map (file_tests asked (declared files)) values) file place what) (omega (arith, length-declarations_tests asked container [] files)) (fails container [] (declared files) made)))
+    in_behind 0 (declarations_tests asked container [] files) (map (file_tests asked (declared files)) values) file place what
+    (subst (λ flags. AllByRecursion (AllByRecursion Holds) (declarations_tests asked container (names flags) files)) c.new-flags.ensures.items c.in_ok-declare_all.ensures.passed)
+    (subst (λ n. FirstFailsIn n (map (file_tests asked (declared files)) values) file place what) (omega (arith, length-declarations_tests asked container [] files)) (fails container [] (declared files) made)))
     c.in_err-set_all.ensures.err)
 
 pub unreachable-requires : goal.unreachable-requires

@@ -17,9 +17,9 @@ returns-in_err-declare_flag-clause-err c =
     let before = names c.args.flags.now.items in
     rw (p.1, p.2) (at_weaker c.in_err-declare_flag.field-0.0 (FirstFails (tests_behind earlier flag)) (FirstFails (header ++ flag_tests before c.args.file.now.flags))
     (λ place what fails.
-        let here = subst (λ tests. FirstFails tests place what) (sym (flag_next earlier declared i flag c.loop-flag-test.true c.flag-item.is)) (fails_front (tests_behind earlier flag) _ place what fails) in
-        fails_behind header (flag_tests before c.args.file.now.flags) place what c.in_ok-test_header.ensures.ok
-        (subst (λ flags. FirstFails (flag_tests before flags) place what) c.as_slice-flag-items.ensures (c.loop-flag.invariant.passed.fails place what here)))
+    let here = subst (λ tests. FirstFails tests place what) (sym (flag_next earlier declared i flag c.loop-flag-test.true c.flag-item.is)) (fails_front (tests_behind earlier flag) _ place what fails) in
+    fails_behind header (flag_tests before c.args.file.now.flags) place what c.in_ok-test_header.ensures.ok
+    (subst (λ flags. FirstFails (flag_tests before flags) place what) c.as_slice-flag-items.ensures (c.loop-flag.invariant.passed.fails place what here)))
     c.in_err-declare_flag.ensures.err)
 
 pub loop-flag-preserved : goal.loop-flag-preserved

@@ -32,7 +32,7 @@ returns-clause-finds c =
     let count : c.len.result ≡ length before = omega (arith, c.len.ensures, length-map c.args.flags.now.items (λ flag. flag.name)) in
     let next = finds_next c.args.places.now c.insert.new.self before c.as_str.result c.requires missed (subst (λ n. Updates text_cmp c.args.places.now c.insert.new.self c.as_str.result (Some n)) count c.in_ok-insert.ensures.updates) in
     let more : names c.push.new.self.items ≡ before ++ c.as_str.result.now ∷ [] =
-        ap names c.in_ok-push.ensures.items ∙ map-append (λ flag. flag.name) c.args.flags.now.items _ ∙ ap (λ n. before ++ n ∷ []) (ap (λ flag. flag.name) c.in_ok-make_flag.ensures.flag ∙ sym c.as_str.ensures) in
+    ap names c.in_ok-push.ensures.items ∙ map-append (λ flag. flag.name) c.args.flags.now.items _ ∙ ap (λ n. before ++ n ∷ []) (ap (λ flag. flag.name) c.in_ok-make_flag.ensures.flag ∙ sym c.as_str.ensures) in
     subst (Finds c.insert.new.self) (sym more) next
 
 pub returns-clause-lawful : goal.returns-clause-lawful

@@ -1,5 +1,6 @@
 use Rattle.acfg_decls.specs.Compile.{all_tests}
 use Rattle.acfg_decls.proofs.OneAnswer.{none_fails_in, one_first_in, one_list, some_first_in}
+use Rattle.acfg_decls.proofs.Few.{compiled_few}
 use Rattle.acfg_decls.proofs.laws.one_compiling.Goals as goal
 
 pub returns-clause-compiles : goal.returns-clause-compiles
@@ -13,3 +14,6 @@ returns-clause-apart c = λ asked container files values flags file place fault 
 
 pub returns-clause-some : goal.returns-clause-some
 returns-clause-some c = λ asked container files values. some_first_in 0 (all_tests asked container files values)
+
+pub returns-clause-few : goal.returns-clause-few
+returns-clause-few c = compiled_few

@@ -18,10 +18,10 @@ returns-in_err-set_value-clause-err c =
     (λ place what. WhereMade asked c.loop-value.flags.items (λ container set declared. FirstFails (value_tests asked declared value) place what))
     (λ place what. WhereMade asked c.args.flags.now.items (λ container set declared. FirstFails (file_tests asked declared file) place what))
     (λ place what fails container set declared made.
-        let here = fails container (set ++ map (λ value. (file.source, value)) (take i values)) declared (c.loop-value.invariant.made container set declared made) in
-        let front = fails_front (value_tests asked declared value) (flat_map (value_tests asked declared) (drop (i + 1) values)) place what here in
-        let rest = subst (λ tests. FirstFails tests place what) (sym (flat_next (value_tests asked declared) values i value c.loop-value-test.true c.value-item.is)) front in
-        subst (λ values. FirstFails (flat_map (value_tests asked declared) values) place what) c.as_slice-value-items.ensures ((c.loop-value.invariant.passed container set declared made).fails place what rest))
+    let here = fails container (set ++ map (λ value. (file.source, value)) (take i values)) declared (c.loop-value.invariant.made container set declared made) in
+    let front = fails_front (value_tests asked declared value) (flat_map (value_tests asked declared) (drop (i + 1) values)) place what here in
+    let rest = subst (λ tests. FirstFails tests place what) (sym (flat_next (value_tests asked declared) values i value c.loop-value-test.true c.value-item.is)) front in
+    subst (λ values. FirstFails (flat_map (value_tests asked declared) values) place what) c.as_slice-value-items.ensures ((c.loop-value.invariant.passed container set declared made).fails place what rest))
     c.in_err-set_value.ensures.err)
 
 pub loop-value-preserved : goal.loop-value-preserved
