@@ -5,9 +5,10 @@ mod Few
 mod Files
 mod Fronts
 mod Named
-mod OneAnswer
+pub mod OneAnswer
 mod System
 mod Tested
 mod Twins
+pub mod Unique
 mod Valued
 mod Walks
