@@ -10,3 +10,13 @@ mod Leading
 mod Resting
 mod Viable
 mod Stopping
+mod Quotes
+pub mod Scans
+mod Lexing
+mod Numbers
+mod Parts
+mod Plainness
+mod Slices
+mod Steps
+mod Failures
+mod Wholes
