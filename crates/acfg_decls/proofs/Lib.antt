@@ -2,7 +2,7 @@ mod Applied
 mod Blank
 mod Distinct
 mod Few
-mod Files
+mod Numbered
 mod Fronts
 mod Named
 pub mod OneAnswer

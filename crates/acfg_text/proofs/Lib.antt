@@ -19,4 +19,4 @@ mod Plainness
 mod Slices
 mod Steps
 mod Failures
-mod Wholes
+pub mod Wholes

@@ -7,7 +7,7 @@ use Rattle.acfg_decls.specs.Compile.{FailsToCompile, FirstFailsIn, Holds, IfIn, 
 use Rattle.acfg_decls.specs.Flags.{IsLawful}
 use Rattle.acfg_decls.specs.Places.{Finds, names}
 use Rattle.acfg_decls.proofs.Distinct.{distinct}
-use Rattle.acfg_decls.proofs.Files.{in_behind, in_front, in_weaker, length-declarations_tests}
+use Rattle.acfg_decls.proofs.Numbered.{in_behind, in_front, in_weaker, length-declarations_tests}
 use Rattle.acfg_decls.proofs.compiling.compile.Goals as goal
 
 none_unlawful : (flags : List Flag) → flags ≡ [] → All IsLawful flags

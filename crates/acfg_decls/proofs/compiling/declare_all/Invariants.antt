@@ -3,7 +3,7 @@ use Rattle.std.specs.Prelude.{All}
 use Rattle.acfg_decls.specs.Compile.{declarations_tests, declared, flag_of}
 use Rattle.acfg_decls.specs.Flags.{IsLawful}
 use Rattle.acfg_decls.specs.Places.{Finds, names}
-use Rattle.acfg_decls.proofs.Files.{PassedIn}
+use Rattle.acfg_decls.proofs.Numbered.{PassedIn}
 use Rattle.acfg_decls.proofs.compiling.declare_all.Given as goal
 
 abbrev pub invariant-loop-file : goal.invariant-loop-file

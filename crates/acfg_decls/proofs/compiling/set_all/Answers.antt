@@ -2,7 +2,7 @@ use Rattle.std.proofs.Common.{◌≡◌, ℕ, ◌+◌, ◌++◌, ◌∷◌, map,
 use Rattle.std.specs.List.{flat_map}
 use Rattle.acfg_decls.specs.Compile.{FirstFailsIn, IfIn, file_tests, flag_of, sourced}
 use Rattle.acfg_decls.specs.Places.{WhereMade}
-use Rattle.acfg_decls.proofs.Files.{PassedIn, file_passed, same_item, sourced_next, tests_next, values_fail}
+use Rattle.acfg_decls.proofs.Numbered.{PassedIn, file_passed, same_item, sourced_next, tests_next, values_fail}
 use Rattle.acfg_decls.proofs.compiling.set_all.Goals as goal
 
 pub returns-in-Err-clause-err : goal.returns-in-Err-clause-err

@@ -4,7 +4,7 @@ use Rattle.std.specs.List.{flat_map}
 use Rattle.acfg_decls.specs.Compile.{file_tests, flag_of, sourced}
 use Rattle.acfg_decls.specs.Flags.{IsLawful}
 use Rattle.acfg_decls.specs.Places.{WhereMade, names}
-use Rattle.acfg_decls.proofs.Files.{PassedIn}
+use Rattle.acfg_decls.proofs.Numbered.{PassedIn}
 use Rattle.acfg_decls.proofs.compiling.set_all.Given as goal
 
 abbrev pub invariant-loop-file : goal.invariant-loop-file
