@@ -1,5 +1,5 @@
 -- The words of a request on a flag, once its key was read.
-use Rattle.std.proofs.Common.{◌≡◌, ℕ, List, [], ◌∷◌, length, map, get_or, Option, None, Some, refl, sym, ap, subst, arith, Bor}
+use Rattle.std.proofs.Common.{◌≡◌, ℕ, List, [], ◌∷◌, length, map, get_or, Option, None, Some, ap, subst, arith, Bor}
 use Rattle.std.specs.Option.{SomeIff}
 use Rattle.acfg_base.specs.Names.{IsContainer, IsPackage, IsName}
 use Rattle.acfg_daemon.specs.declared.requests.Key.{Key}

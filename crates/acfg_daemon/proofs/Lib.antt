@@ -2,7 +2,9 @@ pub mod Clients
 pub mod Cuts
 pub mod Declared
 pub mod Going
+pub mod Joined
 pub mod Keyed
 pub mod Numbered
 pub mod OneTranscript
+pub mod SomeTranscript
 pub mod Words

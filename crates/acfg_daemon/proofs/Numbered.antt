@@ -1,5 +1,5 @@
 -- Each refusal that a step replies with is in the table.
-use Rattle.std.proofs.Common.{◌≡◌, ℕ, Bool, true, false, cond, List, Option, None, Some, Result, Ok, Err, option_map, bytes_eq, refl, subst, ap}
+use Rattle.std.proofs.Common.{◌≡◌, ℕ, Bool, true, false, cond, List, Option, None, Some, Result, Ok, Err, bytes_eq, refl, subst, ap}
 use Rattle.std.specs.Prelude.{nat_le}
 use Rattle.std.specs.FinMap.{get, insert, len}
 use Rattle.acfg_base.specs.Release.{ReleaseMap}
@@ -11,7 +11,7 @@ use Rattle.acfg_model.specs.declared.requests.Reply.{Reply}
 use Rattle.acfg_model.specs.declared.requests.Request.{Request}
 use Rattle.acfg_model.specs.declared.requests.Request.TheVariants.{Update, Server, Local, Unset, Boot, Get}
 use Rattle.acfg_model.specs.State.{Container, State, most_containers}
-use Rattle.acfg_model.specs.Step.{replaced, value_reply, get_reply, boot_value_in, release_step, refused, with_change, with_release, fresh, step}
+use Rattle.acfg_model.specs.Step.{replaced, value_reply, release_step, refused, with_release, fresh, step}
 use Rattle.acfg_model.specs.declared.requests.Reply.TheVariants.{Updated, Unchanged}
 use Rattle.acfg_daemon.specs.Replies.{IsNumbered}
 

@@ -1,6 +1,6 @@
 -- The lines of a script, and what each of them is: a client's request, one that is too long, or no such line.
 use Rattle.std.specs.Prelude.{◌≡◌, ℕ, ◌==◌, ◌<◌, ◌≤◌, List, [], ◌∷◌, ◌++◌, length, if◌then◌else◌}
-use Rattle.std.specs.List.{onto_first}
+use Rattle.std.specs.List.{flat_map, onto_first}
 use Rattle.std.specs.Fmt.{decimal}
 use Rattle.acfg_base.specs.Bytes.{backslash, line_feed, space}
 
@@ -13,6 +13,10 @@ most_bytes = 4096
 abbrev pub lines : List ℕ → List (List ℕ)
 lines [] = []
 lines (byte ∷ bytes) = if byte == line_feed then [] ∷ lines bytes else onto_first byte (lines bytes)
+
+-- lines joined, each with a line feed behind it
+abbrev pub joined : List (List ℕ) → List ℕ
+joined = flat_map (λ line. line ++ line_feed ∷ [])
 
 abbrev pub EndsIn : List ℕ → ℕ → Type 0
 EndsIn text byte = (front : List ℕ) × (text ≡ front ++ byte ∷ [])

@@ -11,6 +11,7 @@ mod sources;
 mod tests;
 
 pub use fault::DaemonFault;
-pub use rehearsal::{one_transcript, rehearse};
+pub use lines::script_of_lines;
+pub use rehearsal::{one_transcript, rehearse, some_transcript};
 pub use replies::reply_text;
 pub use requests::parse_request;

@@ -1,12 +1,13 @@
 //! The lines of a script, taken one at a time.
 
-ghost use Rattle.std.specs.Prelude.{◌≡◌, ◌<◌, ◌↔◌, ℕ, List, ◌∷◌, length, IsTrue};
+ghost use Rattle.std.specs.Prelude.{◌≡◌, ◌<◌, ◌↔◌, ◌++◌, ℕ, List, [], ◌∷◌, length, Contains, IsTrue};
+ghost use Rattle.std.specs.List.{AllByRecursion};
 ghost use Rattle.std.specs.Option.{option_map};
 ghost use Rattle.std.specs.Fmt.{decimal};
 ghost use Rattle.acfg_daemon.specs.Requests.{Finds};
-ghost use Rattle.acfg_base.specs.Bytes.{backslash};
+ghost use Rattle.acfg_base.specs.Bytes.{backslash, line_feed};
 ghost use Rattle.acfg_daemon.specs.Bodies.{event_of, BeginsPlainly};
-ghost use Rattle.acfg_daemon.specs.Lines.{lines, EndsIn, IsGood, IsEvent};
+ghost use Rattle.acfg_daemon.specs.Lines.{lines, EndsIn, IsGood, IsEvent, joined};
 
 use memchr::memchr;
 use std::str;
@@ -91,3 +92,11 @@ fn begins_plainly(word: &[u8]) -> bool
         _ => true,
     }
 }
+
+/// No line of a script holds a line feed, and joined they are the script but for the end of its last line.
+pub fn script_of_lines()
+    ensures bare { (script : List ℕ) → AllByRecursion (λ line. ¬ Contains line line_feed) (lines script) }
+    ensures whole { (script : List ℕ) → EndsIn script line_feed → joined (lines script) ≡ script }
+    ensures unended { (script : List ℕ) → 0 < length script → ¬ EndsIn script line_feed
+        → joined (lines script) ≡ script ++ line_feed ∷ [] }
+{}

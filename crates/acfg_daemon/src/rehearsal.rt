@@ -7,6 +7,8 @@ ghost use Rattle.acfg_device.specs.Panel.{Files, SaysPart};
 ghost use Rattle.acfg_model.specs.State.{State};
 ghost use Rattle.acfg_daemon.specs.Lines.{lines};
 ghost use Rattle.acfg_daemon.specs.Replies.{IsNumbered};
+ghost use Rattle.acfg_model.specs.declared.requests.Loaded.{Loaded};
+ghost use Rattle.acfg_daemon.specs.Sources.{BytesLoad};
 ghost use Rattle.acfg_daemon.specs.Transcript.{Transcript, Begins, BeginsLine, LineSays, Serves, bad_line};
 
 use crate::fault::DaemonFault;
@@ -129,4 +131,11 @@ pub fn one_transcript()
         → Begins files state number lines part → Transcript files state number lines text → (rest : List ℕ) × (text ≡ part ++ rest) }
     ensures whole { (files : Files) (state : State) (number : ℕ) (lines : List (List ℕ)) (text : List ℕ)
         → Transcript files state number lines text → Begins files state number lines text }
+{}
+
+/// A script has a transcript, where no bytes are without anything that they load.
+pub fn some_transcript()
+    ensures { ((container bytes : List ℕ) → ¬ ((loaded : Loaded) → BytesLoad container bytes loaded → ⊥))
+        → (files : Files) (state : State) (number : ℕ) (lines : List (List ℕ))
+        → ¬ ((text : List ℕ) → Transcript files state number lines text → ⊥) }
 {}

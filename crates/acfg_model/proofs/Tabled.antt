@@ -1,7 +1,7 @@
 -- The changes of kept flags are those of their container, and keep it lawful.
 use Rattle.std.proofs.Common.{◌≡◌, ℕ, List, get_or, set, Option, None, Some, Result, Ok, refl, sym, ap, subst, ◌∙◌}
 use Rattle.acfg_base.specs.Places.{StandsAt}
-use Rattle.acfg_base.specs.Release.{Key, key_cmp}
+use Rattle.acfg_base.specs.Release.{key_cmp}
 use Rattle.acfg_model.specs.declared.changes.Change.{Change}
 use Rattle.acfg_model.specs.declared.changes.Change.TheVariants.{SetServer, SetLocal, UnsetLocal}
 use Rattle.acfg_model.specs.declared.containers.FlagState.{FlagState}

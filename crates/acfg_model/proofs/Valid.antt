@@ -12,7 +12,7 @@ use Rattle.acfg_base.proofs.Maps.{get-map_values}
 use Rattle.acfg_model.specs.State.{BootedFlag, BootMap, Container, is_read_write, is_writable, pick, IsDigest, IsValidContainer}
 use Rattle.acfg_model.specs.declared.changes.Change.{Change}
 use Rattle.acfg_model.specs.declared.changes.Change.TheVariants.{SetServer, SetLocal, UnsetLocal}
-use Rattle.acfg_model.specs.Step.{set_refusal, change_refusal, changed, boot_map, booted, booted_flag_of, with_release, fresh}
+use Rattle.acfg_model.specs.Step.{set_refusal, change_refusal, changed, boot_map, booted, with_release, fresh}
 
 -- what isn't refused may be written
 writable_facts : (facts : Option (Kind × Bool)) → set_refusal facts ≡ None → option_map_or (λ f. is_read_write f.0) facts false ≡ true

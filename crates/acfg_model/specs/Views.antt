@@ -1,5 +1,5 @@
 -- What the machine shows of its state: rows in order, and the finite maps that they make.
-use Rattle.std.specs.Prelude.{ℕ, Bool, List, Option, option_map}
+use Rattle.std.specs.Prelude.{ℕ, List, option_map}
 use Rattle.acfg_base.specs.Places.{map_of}
 use Rattle.acfg_base.specs.Release.{Key, key_cmp, key_of}
 use Rattle.acfg_model.specs.declared.views.Booted.{Booted}

@@ -1,3 +1,4 @@
 pub mod Lists
 pub mod OneOutcome
+pub mod SomeOutcome
 pub mod Telling

@@ -1,5 +1,5 @@
 -- Words and files have one outcome.
-use Rattle.std.proofs.Common.{◌≡◌, ◌≢◌, ℕ, List, [], map, Bool, true, false, refl, sym, ◌∙◌, ap, subst, inl, inr, ◌⊎◌}
+use Rattle.std.proofs.Common.{◌≡◌, ℕ, List, [], map, Bool, true, false, refl, sym, ◌∙◌, ap, subst, inl, inr, ◌⊎◌}
 use Rattle.std.specs.Prelude.{Option, None, Some}
 use Rattle.std.specs.List.{flat_map}
 use Rattle.std.specs.Bool.{Decides}
@@ -15,7 +15,7 @@ use Rattle.acfg_text.proofs.Unique.{reads_unique, refuses_unique, reads_or_refus
 use Rattle.acfg_top.specs.Words.{Command, Flags, Rehearse, Asks}
 use Rattle.acfg_top.specs.Commands.{CommandGives, Gives}
 use Rattle.acfg_top.specs.Flags.{Lists, flag_line, fault_words, FlagsGives}
-use Rattle.acfg_top.specs.Outcome.{Outcome, Usage, Refused, Done}
+use Rattle.acfg_top.specs.Outcome.{Outcome, Refused, Done}
 use Rattle.acfg_top.specs.Rehearsal.{RehearseGives}
 
 -- a fact that a test decides holds or fails

@@ -1,12 +1,11 @@
 -- What a command leaves that looks at its inputs and then says its words, and what a run answers for its outcome.
-use Rattle.std.proofs.Common.{◌≡◌, ◌⊎◌, ℕ, List, [], ◌∷◌, ◌++◌, string_bytes, refl, sym, ◌∙◌, ap, subst, inl, inr}
-use Rattle.std.specs.Prelude.{Option, None, Some, Result, Ok, Err, IfOk, IfSome, OnErr, OnOk}
+use Rattle.std.proofs.Common.{◌≡◌, ℕ, List, [], ◌++◌, string_bytes, refl, sym, ◌∙◌, ap, subst, inl, inr}
+use Rattle.std.specs.Prelude.{Option, Result, Ok, Err, IfOk, IfSome, OnErr, OnOk}
 use Rattle.acfg_device.specs.Disk.{Disk, File, IsSettled, IsSynced}
 use Rattle.acfg_device.specs.Only.{OnlySays}
 use Rattle.acfg_device.specs.Panel.{Files, Rose, SaysPart}
 use Rattle.acfg_device.specs.declared.panel.Panel.{Ghosts}
 use Rattle.acfg_top.specs.declared.ending.Ending.{Ending}
-use Rattle.acfg_top.specs.declared.ending.Ending.TheVariants as end
 use Rattle.acfg_top.specs.declared.ending.Stop.{Stop}
 use Rattle.acfg_top.specs.declared.ending.Stop.TheVariants.{Failed, OutOfMemory}
 use Rattle.acfg_top.specs.declared.told.Told.{Told}

@@ -12,4 +12,4 @@ mod told;
 mod top;
 mod words;
 
-pub use top::{one_outcome, run};
+pub use top::{one_outcome, run, some_outcome};

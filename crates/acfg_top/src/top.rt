@@ -1,10 +1,13 @@
 //! The top call.
 
-ghost use Rattle.std.specs.Prelude.{◌≡◌, ◌≤◌, ◌⊎◌, ◌≢◌, ℕ, List, IsTrue, IfOk, OnErr, map, string_bytes};
+ghost use Rattle.std.specs.Prelude.{◌≡◌, ◌≤◌, ◌⊎◌, ◌≢◌, ℕ, List, Some, IsTrue, IfOk, OnErr, map, string_bytes};
+ghost use Rattle.acfg_daemon.specs.Sources.{BytesLoad};
 ghost use Rattle.acfg_device.specs.Only.{OnlySays};
 ghost use Rattle.acfg_device.specs.Panel.{Files, Rose};
+ghost use Rattle.acfg_model.specs.declared.requests.Loaded.{Loaded};
 ghost use Rattle.acfg_top.specs.Bodies.{command_of, status_of, Comes};
 ghost use Rattle.acfg_top.specs.Commands.{CommandGives, Gives, Only};
+ghost use Rattle.acfg_top.specs.Flags.{FlagsGives};
 ghost use Rattle.acfg_top.specs.Outcome.{Answers, IsBroken, IsDone, IsStatus, Outcome, Tells, Usage};
 ghost use Rattle.acfg_top.specs.Words.{Asks};
 
@@ -97,4 +100,11 @@ fn carry_out<D: Device>(alloc: Global, command: Command<'_>, dev: &mut D) -> Res
 pub fn one_outcome()
     ensures { (words : List (List ℕ)) (files : Files) (outcome other : Outcome)
         → Gives words files outcome → Gives words files other → outcome ≡ other }
+{}
+
+/// Words and files have an outcome, where no bytes are without what they load and what `flags` gives for them.
+pub fn some_outcome()
+    ensures { ((container bytes : List ℕ) → ¬ ((loaded : Loaded) → BytesLoad container bytes loaded → ⊥))
+        → ((file bytes : List ℕ) → ¬ ((outcome : Outcome) → FlagsGives file (Some bytes) outcome → ⊥))
+        → (words : List (List ℕ)) (files : Files) → ¬ ((outcome : Outcome) → Gives words files outcome → ⊥) }
 {}

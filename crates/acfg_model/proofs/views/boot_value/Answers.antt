@@ -1,6 +1,6 @@
 use Rattle.std.proofs.Common.{List, Bool, Option, sym, ap, ◌∙◌, Some, option_map}
 use Rattle.std.specs.FinMap.{get}
-use Rattle.acfg_base.specs.Release.{Key, key_cmp}
+use Rattle.acfg_base.specs.Release.{Key}
 use Rattle.acfg_base.proofs.Rows.{get-map_of, row_at-stands, row_at-gap}
 use Rattle.acfg_base.proofs.Keys.{key_total}
 use Rattle.acfg_model.specs.declared.views.Booted.{Booted}

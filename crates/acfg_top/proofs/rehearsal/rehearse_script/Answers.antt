@@ -1,5 +1,5 @@
-use Rattle.std.proofs.Common.{◌≡◌, sym, ap, ◌∙◌, refl, subst, List, ℕ, Global}
-use Rattle.std.specs.Prelude.{codes, Option, None, Some, Vec}
+use Rattle.std.proofs.Common.{◌≡◌, sym, ap, ◌∙◌, refl, subst, ℕ, Global}
+use Rattle.std.specs.Prelude.{codes, None, Some, Vec}
 use Rattle.std.specs.Option.{option_map}
 use Rattle.acfg_device.specs.Panel.{Files}
 use Rattle.acfg_top.specs.Outcome.{Refused}

@@ -1,0 +1,68 @@
+-- A script has a transcript, where what each file loads is there.
+use Rattle.std.proofs.Common.{ℕ, ◌+◌, List, [], ◌∷◌, ◌++◌, length, Option, None, Some, refl, inl, inr, ⊎_elim}
+use Rattle.std.proofs.lemmas.Bool.{cases_lt}
+use Rattle.acfg_device.specs.Panel.{Files}
+use Rattle.acfg_model.specs.declared.requests.Loaded.{Loaded}
+use Rattle.acfg_model.specs.declared.requests.Loaded.TheVariants.{Missing}
+use Rattle.acfg_model.specs.declared.requests.Reply.{Reply}
+use Rattle.acfg_model.specs.declared.requests.Request.{Request}
+use Rattle.acfg_model.specs.declared.requests.Request.TheVariants.{Update, Server, Local, Unset, Boot, Get}
+use Rattle.acfg_model.specs.State.{State}
+use Rattle.acfg_model.specs.Step.{step}
+use Rattle.acfg_daemon.specs.Lines.{Event, Complete, TooLong, BadLine, IsEvent, IsGood, most_bytes}
+use Rattle.acfg_daemon.specs.Replies.{reply_line}
+use Rattle.acfg_daemon.specs.Requests.{Spells}
+use Rattle.acfg_daemon.specs.Sources.{BytesLoad, FileLoads, Loads, source_path}
+use Rattle.acfg_daemon.specs.Transcript.{bad_line, bad_request, too_long, EventSays, Serves, Transcript}
+
+-- what can't be absent
+abbrev pub Some_ : Type 0 → Type 0
+Some_ A = ¬ ¬ A
+
+-- it holds or it doesn't, wherever that is asked for a fact that can't be absent
+by_cases : {P A : Type 0} → (P → Some_ A) → (¬ P → Some_ A) → Some_ A
+by_cases here absent none = absent (λ p. here p none) none
+
+then : {A B : Type 0} → Some_ A → (A → Some_ B) → Some_ B
+then some f none = some (λ a. f a none)
+
+-- some bytes load something, whatever they are
+abbrev pub AllLoad : Type 0
+AllLoad = (container bytes : List ℕ) → Some_ ((loaded : Loaded) × BytesLoad container bytes loaded)
+
+some_file : AllLoad → (container : List ℕ) (file : Option (List ℕ)) → Some_ ((loaded : Loaded) × FileLoads container file loaded)
+some_file all container None none = none (Missing, refl)
+some_file all container (Some bytes) none = all container bytes none
+
+some_load : AllLoad → (files : Files) (request : Request) → Some_ ((loaded : Option Loaded) × Loads files request loaded)
+some_load all files (Update name dir) none = some_file all name (files (source_path dir)) (λ found. none (Some found.0, found.1))
+some_load all files (Server name «package» flag value) none = none (None, refl)
+some_load all files (Local name «package» flag value) none = none (None, refl)
+some_load all files (Unset name «package» flag) none = none (None, refl)
+some_load all files Boot none = none (None, refl)
+some_load all files (Get name «package» flag) none = none (None, refl)
+
+some_serving : AllLoad → (files : Files) (state : State) (text : List ℕ) → Some_ ((after : State) × (reply : Reply) × Serves files state text after reply)
+some_serving all files state text =
+    by_cases {P = (request : Request) × Spells text request}
+    (λ asked. then (some_load all files asked.0) (λ found none. let made = step state asked.0 found.0 in none (made.0, made.1, inl (asked.0, found.0, asked.1, found.1, refl))))
+    (λ never none. none (state, bad_request, inr (λ request spells. never (request, spells), refl, refl)))
+
+some_answer : AllLoad → (files : Files) (state : State) (event : Event) → Some_ ((after : State) × (said : List ℕ) × EventSays files state event after said)
+some_answer all files state (Complete client text) none = some_serving all files state text (λ served. none (served.0, reply_line client served.1, (served.1, served.2, refl)))
+some_answer all files state (TooLong client) none = none (state, reply_line client too_long, (refl, refl))
+some_answer all files state (BadLine number) none = none (state, bad_line number, (refl, refl))
+
+some_event : (number : ℕ) (line : List ℕ) → Some_ ((event : Event) × IsEvent number line event)
+some_event number line =
+    by_cases {P = (client : ℕ) × (piece : List ℕ) × IsGood line client piece}
+    (λ good none. ⊎_elim (λ over. none (TooLong good.0, (good.1, good.2, over))) (λ fits. none (Complete good.0 good.1, (good.2, fits))) (cases_lt most_bytes (length good.1)))
+    (λ never none. none (BadLine number, (refl, λ client piece good. never (client, piece, good))))
+
+pub some_transcript : AllLoad → (files : Files) (state : State) (number : ℕ) (lines : List (List ℕ)) → Some_ ((text : List ℕ) × Transcript files state number lines text)
+some_transcript all files state number [] none = none ([], refl)
+some_transcript all files state number (line ∷ lines) none =
+    some_event number line (λ event.
+    some_answer all files state event.0 (λ answer.
+    some_transcript all files answer.0 (number + 1) lines (λ rest.
+    none (answer.1 ++ rest.0, (answer.0, answer.1, rest.0, (event.0, event.1, answer.2), rest.1, refl)))))
