@@ -1,6 +1,5 @@
 pub mod Clients
 pub mod Cuts
-pub mod Declared
 pub mod Going
 pub mod Joined
 pub mod Keyed

@@ -28,14 +28,14 @@ then some f none = some (λ a. f a none)
 
 -- some bytes load something, whatever they are
 abbrev pub AllLoad : Type 0
-AllLoad = (container bytes : List ℕ) → Some_ ((loaded : Loaded) × BytesLoad container bytes loaded)
+AllLoad = (container path bytes : List ℕ) → Some_ ((loaded : Loaded) × BytesLoad container path bytes loaded)
 
-some_file : AllLoad → (container : List ℕ) (file : Option (List ℕ)) → Some_ ((loaded : Loaded) × FileLoads container file loaded)
-some_file all container None none = none (Missing, refl)
-some_file all container (Some bytes) none = all container bytes none
+some_file : AllLoad → (container path : List ℕ) (file : Option (List ℕ)) → Some_ ((loaded : Loaded) × FileLoads container path file loaded)
+some_file all container path None none = none (Missing, refl)
+some_file all container path (Some bytes) none = all container path bytes none
 
 some_load : AllLoad → (files : Files) (request : Request) → Some_ ((loaded : Option Loaded) × Loads files request loaded)
-some_load all files (Update name dir) none = some_file all name (files (source_path dir)) (λ found. none (Some found.0, found.1))
+some_load all files (Update name dir) none = some_file all name (source_path dir) (files (source_path dir)) (λ found. none (Some found.0, found.1))
 some_load all files (Server name «package» flag value) none = none (None, refl)
 some_load all files (Local name «package» flag value) none = none (None, refl)
 some_load all files (Unset name «package» flag) none = none (None, refl)

@@ -135,7 +135,7 @@ pub fn one_transcript()
 
 /// A script has a transcript, where no bytes are without anything that they load.
 pub fn some_transcript()
-    ensures { ((container bytes : List ℕ) → ¬ ((loaded : Loaded) → BytesLoad container bytes loaded → ⊥))
+    ensures { ((container path bytes : List ℕ) → ¬ ((loaded : Loaded) → BytesLoad container path bytes loaded → ⊥))
         → (files : Files) (state : State) (number : ℕ) (lines : List (List ℕ))
         → ¬ ((text : List ℕ) → Transcript files state number lines text → ⊥) }
 {}

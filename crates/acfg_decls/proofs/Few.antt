@@ -1,8 +1,14 @@
 -- Flags whose tests hold are no more than a package may have.
-use Rattle.std.proofs.Common.{◌≡◌, ℕ, ◌+◌, ◌≤◌, List, [], ◌∷◌, ◌++◌, length, map, IsPermutation, refl, sym, ap, ◌∙◌, arith, length-append}
+use Rattle.std.proofs.Common.{◌≡◌, ℕ, ◌+◌, ◌≤◌, Bool, true, false, cond, List, [], ◌∷◌, ◌++◌, length, map, IsPermutation, refl, sym, ap, ◌∙◌, arith, length-append}
 use Rattle.std.specs.List.{AllByRecursion, flat_map}
+use Rattle.std.specs.FinMap.{contains_key, from_entries, len, len-empty, len-insert}
 use Rattle.std.proofs.lemmas.List.{length-map}
 use Rattle.std.proofs.lemmas.List.Sorted.{length_permutation}
+use Rattle.acfg_base.specs.declared.releases.Entry.{Entry}
+use Rattle.acfg_base.specs.declared.releases.Kind.{Kind}
+use Rattle.acfg_base.specs.Release.{facts_of, key_cmp, key_of, release_of}
+use Rattle.acfg_base.proofs.Keys.{key_total}
+use Rattle.acfg_decls.specs.Releases.{entry_of, release}
 use Rattle.acfg_decls.specs.declared.flags.Flag.{Flag}
 use Rattle.acfg_decls.specs.declared.declared.DeclaredFlag.{DeclaredFlag}
 use Rattle.acfg_decls.specs.declared.declared.DeclarationsFile.{DeclarationsFile}
@@ -43,3 +49,18 @@ compiled_few «package» container files values flags compiles =
     let few = files_few «package» container [] files (holds_in_front (AllByRecursion Holds) tests (map (file_tests «package» (declared files)) values) compiles.passed) (omega arith) in
     let made = map (flag_of «package» container (flat_map sourced values)) (declared files) in
     omega (arith, few, length_permutation made flags compiles.same, length-map (declared files) (flag_of «package» container (flat_map sourced values)))
+
+one_more : (b : Bool) (n : ℕ) → cond b n (n + 1) ≤ n + 1
+one_more true n = omega arith
+one_more false n = omega arith
+
+entries_few : (entries : List Entry) → len (release_of entries) ≤ length entries
+entries_few [] = omega (arith, len-empty key_cmp (Kind × Bool))
+entries_few (e ∷ entries) =
+    let old = from_entries {R = key_cmp} (map (λ row. (key_of row, facts_of row)) entries) in
+    let more = len-insert key_total old (key_of e) (facts_of e) in
+    omega (arith, more, one_more (contains_key old (key_of e)) (len old), entries_few entries)
+
+-- a release has no more flags than it is made of
+pub released_few : (flags : List Flag) → len (release flags) ≤ length flags
+released_few flags = omega (arith, entries_few (map entry_of flags), length-map flags entry_of)

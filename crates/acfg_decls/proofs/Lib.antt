@@ -1,7 +1,7 @@
 mod Applied
 mod Blank
 mod Distinct
-mod Few
+pub mod Few
 mod Numbered
 mod Fronts
 mod Named

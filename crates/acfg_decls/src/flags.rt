@@ -1,8 +1,9 @@
 //! Compiled flags.
 
-ghost use Rattle.std.specs.Prelude.{◌≡◌, All, Any, IfOk, IfSome, MatchOption, map, IsPermutation, IsSortedByKey};
+ghost use Rattle.std.specs.Prelude.{◌≡◌, ◌≤◌, All, Any, length, IfOk, IfSome, MatchOption, map, IsPermutation, IsSortedByKey};
 ghost use Rattle.std.specs.Bool.{MatchBool};
 ghost use Rattle.std.specs.Cmp.Lexicographic.{slice_cmp};
+ghost use Rattle.std.specs.FinMap.{len};
 ghost use Rattle.std.specs.Ordering.{nat_cmp};
 ghost use Rattle.acfg_base.specs.Places.{AreInOrder};
 ghost use Rattle.acfg_decls.specs.Releases.{entry_of, kind_of, release};
@@ -175,7 +176,8 @@ impl Flags {
 
     /// The release that the flags make: each one's kind and state.
     pub fn release(&self, alloc: Global) -> Result<Release, OutOfMemory>
-        ensures { IfOk result (λ made. made ≡ release self.now) }
+        ensures release { IfOk result (λ made. made ≡ release self.now) }
+        ensures few { IfOk result (λ made. len made ≤ length self.now) }
     {
         let _ = &self.list;
         let entries = list_entries(alloc, &self.list)?;

@@ -4,17 +4,21 @@ use Rattle.std.specs.Prelude.{Option, None, Some}
 use Rattle.std.specs.List.{flat_map}
 use Rattle.std.specs.Bool.{Decides}
 use Rattle.std.proofs.lemmas.Bool.Decides.{not_from_Decides}
-use Rattle.acfg_base.proofs.Sorting.{sorted_texts_unique}
 use Rattle.std.specs.FinMap.{empty}
 use Rattle.acfg_daemon.specs.Lines.{lines}
 use Rattle.acfg_daemon.proofs.OneTranscript.{one_transcript}
 use Rattle.acfg_device.specs.Panel.{Files}
-use Rattle.acfg_text.specs.declared.plain.Plain.{Plain}
-use Rattle.acfg_text.specs.Containers.{container_read}
-use Rattle.acfg_text.proofs.Unique.{reads_unique, refuses_unique, reads_or_refuses}
+use Rattle.acfg_decls.specs.declared.flags.Flag.{Flag}
+use Rattle.acfg_decls.specs.declared.declared.DeclarationsFile.{DeclarationsFile}
+use Rattle.acfg_decls.specs.declared.faults.DeclWhat.{DeclWhat}
+use Rattle.acfg_decls.specs.declared.messages.Message.TheVariants.{FlagDeclarations}
+use Rattle.acfg_decls.specs.Compile.{CompilesOwn, FailsOwn}
+use Rattle.acfg_decls.specs.Reading.{Declares}
+use Rattle.acfg_decls.proofs.OneAnswer.{own_apart, own_fails_unique, own_unique}
+use Rattle.acfg_decls.proofs.Unique.{declares_unique, passes_apart, refuses_unique}
 use Rattle.acfg_top.specs.Words.{Command, Flags, Rehearse, Asks}
 use Rattle.acfg_top.specs.Commands.{CommandGives, Gives}
-use Rattle.acfg_top.specs.Flags.{Lists, flag_line, fault_words, FlagsGives}
+use Rattle.acfg_top.specs.Flags.{FileFails, FlagsGives, fault_words, flag_line}
 use Rattle.acfg_top.specs.Outcome.{Outcome, Refused, Done}
 use Rattle.acfg_top.specs.Rehearsal.{RehearseGives}
 
@@ -23,22 +27,34 @@ holds_or_fails : {P : Type 0} (b : Bool) → Decides b P → P ⊎ ¬ P
 holds_or_fails true decides = inl (decides.0 refl)
 holds_or_fails false decides = inr (not_from_Decides false decides refl)
 
-one_listing : (plain : Plain) (text other : List ℕ) → Lists plain text → Lists plain other → text ≡ other
-one_listing plain text other lists also =
-    let names = sorted_texts_unique (map (λ flag. flag.name) plain.flags) lists.names also.names lists.same also.same lists.rising also.rising in
-    lists.lines ∙ ap (flat_map (flag_line plain.package (container_read plain.container))) names ∙ sym also.lines
+-- a file that is read and compiled is refused nowhere
+never_fails : (name bytes : List ℕ) (file : DeclarationsFile) (flags : List Flag) (place : ℕ) (fault : DeclWhat) → Declares name bytes file → CompilesOwn file flags → FileFails name bytes place fault → ⊥
+never_fails name bytes file flags place fault declares compiles (inl refuses) = passes_apart FlagDeclarations bytes declares.0 place fault declares.1 refuses
+never_fails name bytes file flags place fault declares compiles (inr (other, number, declares_too, fails)) =
+    let same = declares_unique name bytes other file declares_too declares in
+    own_apart file flags number place fault compiles (subst (λ f. FailsOwn f number place fault) same fails)
+
+-- and a file has one first fault
+one_failure : (name bytes : List ℕ) (place other_place : ℕ) (fault other : DeclWhat) → FileFails name bytes place fault → FileFails name bytes other_place other → (place ≡ other_place) × (fault ≡ other)
+one_failure name bytes place other_place fault other (inl a) (inl b) = refuses_unique FlagDeclarations bytes place other_place fault other a b
+one_failure name bytes place other_place fault other (inl a) (inr (file, number, declares, fails)) = absurd (passes_apart FlagDeclarations bytes declares.0 place fault declares.1 a)
+one_failure name bytes place other_place fault other (inr (file, number, declares, fails)) (inl b) = absurd (passes_apart FlagDeclarations bytes declares.0 other_place other declares.1 b)
+one_failure name bytes place other_place fault other (inr (file, number, declares, fails)) (inr (file_too, number_too, declares_too, fails_too)) =
+    let same = declares_unique name bytes file file_too declares declares_too in
+    (own_fails_unique file_too number place number_too other_place fault other (subst (λ f. FailsOwn f number place fault) same fails) fails_too)
 
 -- `flags FILE` has one outcome
-pub flags_gives_unique : (file : List ℕ) (found : Option (List ℕ)) (a b : Outcome) → FlagsGives file found a → FlagsGives file found b → a ≡ b
-flags_gives_unique file None a b gives also = gives ∙ sym also
-flags_gives_unique file (Some bytes) a b (inl (plain, text, reads, lists, is)) (inl (other, words, reads_too, lists_too, is_too)) =
-    let same = reads_unique bytes plain other reads reads_too in
-    is ∙ ap (λ t. Done t []) (one_listing other text words (subst (λ p. Lists p text) same lists) lists_too) ∙ sym is_too
-flags_gives_unique file (Some bytes) a b (inl (plain, text, reads, lists, is)) (inr (place, what, refuses, is_too)) = absurd (reads_or_refuses bytes plain place what reads refuses)
-flags_gives_unique file (Some bytes) a b (inr (place, what, refuses, is)) (inl (plain, text, reads, lists, is_too)) = absurd (reads_or_refuses bytes plain place what reads refuses)
-flags_gives_unique file (Some bytes) a b (inr (place, what, refuses, is)) (inr (other, fault, refuses_too, is_too)) =
-    let same = refuses_unique bytes place other what fault refuses refuses_too in
-    is ∙ (λ j. Refused file (fault_words (same.0 j) (same.1 j))) ∙ sym is_too
+pub flags_gives_unique : (name : List ℕ) (found : Option (List ℕ)) (a b : Outcome) → FlagsGives name found a → FlagsGives name found b → a ≡ b
+flags_gives_unique name None a b gives also = gives ∙ sym also
+flags_gives_unique name (Some bytes) a b (inl (file, flags, declares, compiles, is)) (inl (file_too, flags_too, declares_too, compiles_too, is_too)) =
+    let same = declares_unique name bytes file file_too declares declares_too in
+    let listed = own_unique file_too flags flags_too (subst (λ f. CompilesOwn f flags) same compiles) compiles_too in
+    is ∙ ap (λ flags. Done (flat_map flag_line flags) []) listed ∙ sym is_too
+flags_gives_unique name (Some bytes) a b (inl (file, flags, declares, compiles, is)) (inr (place, fault, fails, is_too)) = absurd (never_fails name bytes file flags place fault declares compiles fails)
+flags_gives_unique name (Some bytes) a b (inr (place, fault, fails, is)) (inl (file, flags, declares, compiles, is_too)) = absurd (never_fails name bytes file flags place fault declares compiles fails)
+flags_gives_unique name (Some bytes) a b (inr (place, fault, fails, is)) (inr (other_place, other, fails_too, is_too)) =
+    let same = one_failure name bytes place other_place fault other fails fails_too in
+    is ∙ (λ j. Refused name (fault_words (same.0 j) (same.1 j))) ∙ sym is_too
 
 -- `rehearse SCRIPT` has one outcome
 pub rehearse_gives_unique : (script : List ℕ) (files : Files) (found : Option (List ℕ)) (a b : Outcome) → RehearseGives script files found a → RehearseGives script files found b → a ≡ b

@@ -44,7 +44,7 @@ status_of (Err OutOfMemory) = 5
 -- why an input is refused, as it is printed
 abbrev pub refusal_words : Refusal → List ℕ
 refusal_words refusal.Missing = codes "missing"
-refusal_words (refusal.Text place what) = fault_words place what
+refusal_words (refusal.Declarations place what) = fault_words place what
 
 -- what is to be told is that of an outcome that writes no file
 pub record IsOf (outcome : Outcome) (told : Told) : Type 0 where

@@ -1,18 +1,17 @@
 //! `flags FILE`: the flags of one declarations file.
 
-ghost use Rattle.std.specs.Prelude.{◌≡◌, ◌++◌, List, ℕ, IsTrue, IfOk, IfErr, OnErr, OnOk, string_bytes, map};
-ghost use Rattle.std.specs.List.Sorted.{IsPermutation, IsSorted};
-ghost use Rattle.std.specs.Cmp.Lexicographic.{slice_cmp};
-ghost use Rattle.std.specs.Ordering.{nat_cmp};
+ghost use Rattle.std.specs.Prelude.{◌≡◌, ◌++◌, IsTrue, IfOk, IfErr, OnErr, OnOk, string_bytes};
+ghost use Rattle.std.specs.List.{flat_map};
 ghost use Rattle.acfg_device.specs.Only.{OnlyReads, OnlySays};
+ghost use Rattle.acfg_decls.specs.Reading.{Declares};
 ghost use Rattle.acfg_top.specs.Bodies.{Comes, IsOf};
-ghost use Rattle.acfg_top.specs.Flags.{FlagsGives, Lists, flag_line};
+ghost use Rattle.acfg_top.specs.Flags.{FlagsGives, flag_line};
 ghost use Rattle.acfg_top.specs.Outcome.{Outcome, IsBroken};
 
 use crate::ending::{Ending, Stop};
 use crate::told::{Refusal, Told, refused, tell};
+use acfg_decls::{CompileFault, DeclFault, Declarations, Flag, compile_own, read_declarations};
 use acfg_device::Panel;
-use acfg_text::{Plain, PlainFault, PlainFlag, read_container, read_plain};
 use std::alloc::{AllocError, Global};
 
 /// Lists the flags of one declarations file.
@@ -45,54 +44,48 @@ fn listed(alloc: Global, file: &str, bytes: &[u8]) -> Result<Told, Stop>
         × FlagsGives file.now (Some bytes.now) outcome × IsOf outcome told) }
     ensures err { IfErr result (λ stop. stop ≡ Stop.OutOfMemory) }
 {
-    match read_plain(alloc, bytes) {
-        Ok(plain) => Ok(Told {
-            ending: Ending::Done,
-            text: listing(alloc, &plain)?,
-        }),
-        Err(PlainFault::At(place, what)) => Ok(refused(alloc, file, Refusal::Text(place, what))?),
-        Err(PlainFault::OutOfMemory) => Err(Stop::OutOfMemory),
+    match read_declarations(alloc, file, bytes) {
+        Ok(declarations) => compiled(alloc, file, bytes, &declarations),
+        Err(DeclFault::At(place, what)) => Ok(refused(alloc, file, Refusal::Declarations(place, what))?),
+        Err(DeclFault::OutOfMemory) => Err(Stop::OutOfMemory),
     }
 }
 
-// One line a flag, in the order of their names.
-fn listing(alloc: Global, plain: &Plain) -> Result<String, AllocError>
-    ensures { IfOk result (λ text. Lists plain.now (string_bytes text)) }
+// The flags of declarations that were read of these bytes.
+fn compiled(alloc: Global, file: &str, bytes: &[u8], declarations: &Declarations) -> Result<Told, Stop>
+    requires { Declares file.now bytes.now declarations.now }
+    ensures told { IfOk result (λ told. (outcome : Outcome)
+        × FlagsGives file.now (Some bytes.now) outcome × IsOf outcome told) }
+    ensures err { IfErr result (λ stop. stop ≡ Stop.OutOfMemory) }
 {
-    let package = plain.package.as_str();
-    let container = read_container(plain.container.as_str());
-    let names = sorted_names(alloc, plain.flags.as_slice())?;
+    match compile_own(alloc, declarations) {
+        Ok(flags) => Ok(Told {
+            ending: Ending::Done,
+            text: listing(alloc, flags.list())?,
+        }),
+        Err(CompileFault::In(_, place, what)) => Ok(refused(alloc, file, Refusal::Declarations(place, what))?),
+        Err(CompileFault::OutOfMemory) => Err(Stop::OutOfMemory),
+    }
+}
+
+// One line a flag.
+fn listing(alloc: Global, flags: &[Flag]) -> Result<String, AllocError>
+    ensures { IfOk result (λ text. string_bytes text ≡ flat_map flag_line flags.now) }
+{
     let mut text = String::new(alloc);
-    for name in &names {
-        push_line(&mut text, package, container, name)?;
+    for flag in flags {
+        push_line(&mut text, flag)?;
     }
     Ok(text)
 }
 
-fn push_line(
-    text: &mut String,
-    package: &str,
-    container: &str,
-    name: &str,
-) -> Result<(), AllocError>
-    ensures { OnOk result (string_bytes text.new
-        ≡ string_bytes text.old ++ flag_line «package».now container.now name.now) }
+fn push_line(text: &mut String, flag: &Flag) -> Result<(), AllocError>
+    ensures { OnOk result (string_bytes text.new ≡ string_bytes text.old ++ flag_line flag.now) }
 {
-    write!(
-        text,
-        "{package}.{name} [{container}]: READ_WRITE + DISABLED\n"
-    )
-}
-
-fn sorted_names<'a>(alloc: Global, flags: &'a [PlainFlag]) -> Result<Vec<&'a str>, AllocError>
-    ensures same { IfOk result (λ names.
-        IsPermutation (map (λ flag. flag.name) flags.now) (map (λ name. name.now) names.items)) }
-    ensures rising { IfOk result (λ names. IsSorted (slice_cmp nat_cmp) (map (λ name. name.now) names.items)) }
-{
-    let mut names = Vec::new(alloc);
-    for flag in flags {
-        names.push(flag.name.as_str())?;
-    }
-    names.sort()?;
-    Ok(names)
+    let package = flag.package.as_str();
+    let name = flag.name.as_str();
+    let container = flag.container.as_str();
+    let permission = if flag.writable { "READ_WRITE" } else { "READ_ONLY" };
+    let state = if flag.enabled { "ENABLED" } else { "DISABLED" };
+    write!(text, "{package}.{name} [{container}]: {permission} + {state}\n")
 }

@@ -7,8 +7,9 @@ ghost use Rattle.acfg_top.specs.Bodies.{refusal_words, IsOf};
 ghost use Rattle.acfg_top.specs.Outcome.{Refused};
 
 use crate::ending::{Ending, Stop};
+use acfg_decls::DeclWhat;
 use acfg_device::Panel;
-use acfg_text::PlainWhat;
+use acfg_text::TextWhat;
 use std::alloc::{AllocError, Global};
 use std::fmt;
 
@@ -19,13 +20,46 @@ pub struct Told {
     pub text: String,
 }
 
+// What is wrong with a file of declarations or values, as the program says it.
+struct Printed(DeclWhat);
+
+impl fmt::Display for Printed {
+    ghost use Rattle.std.specs.Prelude.{Some};
+    ghost use Rattle.acfg_top.specs.Flags.{what_words};
+
+    ghost output = { λ printed. Some (what_words printed.0) };
+
+    fn fmt<W: fmt::Write>(&self, f: &mut fmt::Formatter<W>) -> fmt::Result {
+        match self.0 {
+            DeclWhat::Text(TextWhat::BadByte) => write!(f, "bad-byte"),
+            DeclWhat::Text(TextWhat::BadEscape) => write!(f, "bad-escape"),
+            DeclWhat::Text(TextWhat::OpenString) => write!(f, "open-string"),
+            DeclWhat::Text(TextWhat::Unexpected) => write!(f, "unexpected"),
+            DeclWhat::Text(TextWhat::TooDeep) => write!(f, "too-deep"),
+            DeclWhat::Text(TextWhat::BadUtf8) => write!(f, "bad-utf8"),
+            DeclWhat::UnknownField => write!(f, "unknown-field"),
+            DeclWhat::TwiceGiven => write!(f, "twice-given"),
+            DeclWhat::BadScalar => write!(f, "bad-scalar"),
+            DeclWhat::MissingField => write!(f, "missing-field"),
+            DeclWhat::BadName => write!(f, "bad-name"),
+            DeclWhat::EmptyDescription => write!(f, "empty-description"),
+            DeclWhat::BugCount(count) => write!(f, "bug-count {count}"),
+            DeclWhat::WrongPackage => write!(f, "wrong-package"),
+            DeclWhat::WrongContainer => write!(f, "wrong-container"),
+            DeclWhat::Declared => write!(f, "declared"),
+            DeclWhat::TooMany => write!(f, "too-many"),
+            DeclWhat::FixedFlag => write!(f, "fixed-flag"),
+        }
+    }
+}
+
 /// Why an input is refused. It is printed as the program says it.
 #[derive(Clone, Copy, Debug)]
 pub enum Refusal {
     /// There is no such file.
     Missing,
-    /// The first fault of a text, and its byte place from 0.
-    Text(usize, PlainWhat),
+    /// The first fault of a file of declarations or values, and its byte place from 0.
+    Declarations(usize, DeclWhat),
 }
 
 impl fmt::Display for Refusal {
@@ -37,9 +71,10 @@ impl fmt::Display for Refusal {
     fn fmt<W: fmt::Write>(&self, f: &mut fmt::Formatter<W>) -> fmt::Result {
         match self {
             Refusal::Missing => write!(f, "missing"),
-            Refusal::Text(place, PlainWhat::MissingField) => write!(f, "missing-field at {place}"),
-            Refusal::Text(place, PlainWhat::BadName) => write!(f, "bad-name at {place}"),
-            Refusal::Text(place, PlainWhat::Unbuilt) => write!(f, "unbuilt at {place}"),
+            Refusal::Declarations(place, what) => {
+                let what = Printed(*what);
+                write!(f, "{what} at {place}")
+            }
         }
     }
 }

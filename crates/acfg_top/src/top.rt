@@ -104,7 +104,7 @@ pub fn one_outcome()
 
 /// Words and files have an outcome, where no bytes are without what they load and what `flags` gives for them.
 pub fn some_outcome()
-    ensures { ((container bytes : List ℕ) → ¬ ((loaded : Loaded) → BytesLoad container bytes loaded → ⊥))
+    ensures { ((container path bytes : List ℕ) → ¬ ((loaded : Loaded) → BytesLoad container path bytes loaded → ⊥))
         → ((file bytes : List ℕ) → ¬ ((outcome : Outcome) → FlagsGives file (Some bytes) outcome → ⊥))
         → (words : List (List ℕ)) (files : Files) → ¬ ((outcome : Outcome) → Gives words files outcome → ⊥) }
 {}
