@@ -14,6 +14,8 @@ mod own;
 mod reading;
 mod scalars;
 mod setting;
+#[cfg(test)]
+mod tests;
 mod walk;
 
 pub use compiling::{MOST_FLAGS, compile};

@@ -5,7 +5,7 @@ ghost use Rattle.std.specs.List.{flat_map};
 ghost use Rattle.acfg_device.specs.Only.{OnlyReads, OnlySays};
 ghost use Rattle.acfg_decls.specs.Reading.{Declares};
 ghost use Rattle.acfg_top.specs.Bodies.{Comes, IsOf};
-ghost use Rattle.acfg_top.specs.Flags.{FlagsGives, flag_line};
+ghost use Rattle.acfg_top.specs.Flags.{FlagsGives, flag_line, permission_name, state_name};
 ghost use Rattle.acfg_top.specs.Outcome.{Outcome, IsBroken};
 
 use crate::ending::{Ending, Stop};
@@ -85,7 +85,19 @@ fn push_line(text: &mut String, flag: &Flag) -> Result<(), AllocError>
     let package = flag.package.as_str();
     let name = flag.name.as_str();
     let container = flag.container.as_str();
-    let permission = if flag.writable { "READ_WRITE" } else { "READ_ONLY" };
-    let state = if flag.enabled { "ENABLED" } else { "DISABLED" };
+    let permission = permission_name(flag.writable);
+    let state = state_name(flag.enabled);
     write!(text, "{package}.{name} [{container}]: {permission} + {state}\n")
+}
+
+fn permission_name(writable: bool) -> &'static str
+    ensures { result.now ≡ permission_name writable }
+{
+    if writable { "READ_WRITE" } else { "READ_ONLY" }
+}
+
+fn state_name(enabled: bool) -> &'static str
+    ensures { result.now ≡ state_name enabled }
+{
+    if enabled { "ENABLED" } else { "DISABLED" }
 }

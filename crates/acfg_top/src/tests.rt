@@ -54,7 +54,37 @@ fn flags_are_listed_or_refused(rt: HostRuntime) -> Result<(), Fail> {
             2,
             "refused FILE: bad-name at 45\n",
         ),
-        ("package: \"com.a\" # x", 2, "refused FILE: unbuilt at 17\n"),
+        (
+            "package: \"com.a\" # x",
+            2,
+            "refused FILE: missing-field at 20\n",
+        ),
+        (
+            "package: \"com.\" 'a' container: \"c\"; flag < name: \"\\x66\" namespace: \"n\", description: 'it\\'s' bug: [ \"b1\" ] > # end",
+            0,
+            "com.a.f [c]: READ_WRITE + DISABLED\n",
+        ),
+        (
+            "package: \"com.a\" container: \"c\" flag { name: \"f\" namespace: \"n\" description: \"d\" bug: [\"1\", \"2\"] }",
+            2,
+            "refused FILE: bug-count 2 at 37\n",
+        ),
+        (
+            "package: \"com.android.intro\" container: \"system_ext\" flag { name: \"new_page\" namespace: \"intro\" description: \"d\" bug: \"1\" is_fixed_read_only: true }",
+            0,
+            "com.android.intro.new_page [system]: READ_ONLY + DISABLED\n",
+        ),
+        ("package: \"com.a\" flags: 1", 2, "refused FILE: unknown-field at 17\n"),
+        (
+            "a{a{a{a{a{a{a{a{a{a{a{a{a{a{a{a{a{a{a{a{a{a{a{a{a{a{a{a{a{a{a{a{a{",
+            2,
+            "refused FILE: too-deep at 65\n",
+        ),
+        (
+            "a{a{a{a{a{a{a{a{a{a{a{a{a{a{a{a{a{a{a{a{a{a{a{a{a{a{a{a{a{a{a{a{",
+            2,
+            "refused FILE: unexpected at 64\n",
+        ),
         (
             "package:\"com.a\"container:\"system_ext\"flag{name:\"z\"namespace:\"n\"description:\"d\"bug:\"1\"}\nflag{name:\"b_1\"namespace:\"n\"description:\"d\"bug:\"1\"}",
             0,

@@ -21,6 +21,7 @@ pub struct Told {
 }
 
 // What is wrong with a file of declarations or values, as the program says it.
+#[derive(Drop)]
 struct Printed(DeclWhat);
 
 impl fmt::Display for Printed {
