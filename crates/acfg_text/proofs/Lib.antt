@@ -1,11 +1,3 @@
-pub mod Ascii
-pub mod Faults
-pub mod Forms
-pub mod OneToken
-pub mod Refusals
-pub mod Tests
-pub mod Unique
-pub mod Seen
 mod Leading
 mod Resting
 mod Viable

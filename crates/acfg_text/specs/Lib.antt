@@ -1,13 +1,9 @@
-pub mod Containers
 pub mod Escapes
-pub mod Form
 pub mod Grammar
 pub mod Lexes
 pub mod Machine
 pub mod Meanings
-pub mod Plain
 pub mod Printed
-pub mod Reader
 pub mod Reading
 pub mod Scanning
 pub mod Spells
