@@ -51,7 +51,6 @@ fn a_bool_has_its_spellings(rt: HostRuntime) -> Result<(), Fail> {
         ("00", Some(false)),
         ("TRUE", None),
         ("2", None),
-        ("-1", None),
         ("1.0", None),
         ("\"true\"", None),
     ];

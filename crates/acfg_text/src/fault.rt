@@ -28,10 +28,6 @@ pub enum TextFault {
     OutOfMemory,
 }
 
-/// Memory was refused.
-#[derive(Clone, Copy, Debug, PartialEq, Eq)]
-pub struct OutOfMemory;
-
 impl From<AllocError> for TextFault {
     ghost use Rattle.std.specs.Prelude.{◌≡◌};
     ghost use Rattle.acfg_text.specs.declared.fault.TextFault.TheVariants.{OutOfMemory};
@@ -51,17 +47,5 @@ impl<T: Drop> From<AllocFailed<T>> for TextFault {
 
     fn from(_refusal: AllocFailed<T>) -> TextFault {
         TextFault::OutOfMemory
-    }
-}
-
-impl From<AllocError> for OutOfMemory {
-    fn from(_refusal: AllocError) -> OutOfMemory {
-        OutOfMemory
-    }
-}
-
-impl<T: Drop> From<AllocFailed<T>> for OutOfMemory {
-    fn from(_refusal: AllocFailed<T>) -> OutOfMemory {
-        OutOfMemory
     }
 }

@@ -15,7 +15,7 @@ mod trees;
 
 pub use acfg_base::Text;
 pub use classes::{Bracket, Class};
-pub use fault::{OutOfMemory, TextFault, TextWhat};
+pub use fault::{TextFault, TextWhat};
 pub use lexer::tokens;
 pub use printer::print_tree;
 pub use token::{Token, TokenKind};

@@ -4,7 +4,7 @@ ghost use Rattle.std.specs.Prelude.{◌≡◌, ◌++◌, ◌∷◌, [], map, IfO
 ghost use Rattle.std.specs.List.{flat_map};
 ghost use Rattle.acfg_text.specs.Printed.{printed_byte, quoted, held, braced, bracketed, separated, shown, printed_item, printed_fields, printed};
 
-use crate::fault::OutOfMemory;
+use acfg_base::OutOfMemory;
 use crate::tree::{Item, Tree, Value};
 use std::alloc::{AllocError, Global};
 
