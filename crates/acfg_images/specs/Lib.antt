@@ -1,0 +1,5 @@
+pub mod Files
+pub mod Words
+pub mod Links
+pub mod Set
+pub mod Image
