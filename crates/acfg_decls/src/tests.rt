@@ -15,16 +15,16 @@ const FOUR_VALUES: &str =
 fn values_set_flags_in_order(rt: HostRuntime) -> Result<(), Fail> {
     let alloc = rt.alloc();
     let Some(package) = PackageName::parse(alloc, "com.a")? else {
-        unreachable!();
+        panic!(rt; "no package");
     };
     let Some(container) = ContainerName::parse(alloc, "system")? else {
-        unreachable!();
+        panic!(rt; "no container");
     };
     let declarations = vec![in alloc; read_declarations(alloc, "flags", TWO_FLAGS.as_bytes())?]?;
     let values = vec![in alloc; read_values(alloc, "values", FOUR_VALUES.as_bytes())?]?;
     let flags = compile(alloc, &package, &container, &declarations, &values)?;
     let [a, z] = flags.list() else {
-        unreachable!();
+        panic!(rt; "not two flags");
     };
     assert_eq!(rt; a.name.as_str(), "a");
     assert_eq!(rt; (a.enabled, a.writable, a.trace.as_slice().len()), (false, false, 1));
@@ -63,7 +63,7 @@ fn a_bool_has_its_spellings(rt: HostRuntime) -> Result<(), Fail> {
                 }
             }
             (Err(fault), None) => assert_eq!(rt; fault, DeclFault::At(90, DeclWhat::BadScalar), "{spelling}"),
-            _ => unreachable!(),
+            _ => panic!(rt; "{spelling}"),
         }
     }
     Ok(())
@@ -83,13 +83,13 @@ fn faults_have_their_places(rt: HostRuntime) -> Result<(), Fail> {
     ];
     for (text, place, what) in table {
         match read_declarations(alloc, "flags", text.as_bytes()) {
-            Ok(_) => unreachable!(),
+            Ok(_) => panic!(rt; "{text}"),
             Err(fault) => assert_eq!(rt; fault, DeclFault::At(place, what), "{text}"),
         }
     }
     let own = read_declarations(alloc, "flags", b"package: \"com.a\"")?;
     match compile_own(alloc, &own) {
-        Ok(_) => unreachable!(),
+        Ok(_) => panic!(rt; "no container is named"),
         Err(fault) => assert_eq!(rt; fault, CompileFault::In(0, 16, DeclWhat::MissingField)),
     }
     assert_eq!(rt; read_container("system_ext"), "system");
