@@ -172,3 +172,21 @@ module _ {N : Type 0} (read : List ℕ → Result (N × List ℕ) ViewFault) (no
       let none : length (drop at map.file) ≡ 0 = omega (arith, length-drop at map.file) in
       (finished read nodes map.count i (drop at map.file) _ le none so.front,
        sym (append-nil links) ∙ so.linked [] ∙ ap (links_from node key next map.first_node) (append-nil nodes))
+
+-- as many nodes are read as there have to be
+length-next : {N : Type 0} (k : ℕ) (r : Result (N × List ℕ) ViewFault) (tail : List ℕ) (others : List ℕ → Result (List N) (List ℕ)) (nodes : List N) → ((rest : List ℕ) (ns : List N) → others rest ≡ Ok ns → length ns ≡ k) → next_node r tail others ≡ Ok nodes → length nodes ≡ suc k
+length-next k (Err f) tail others nodes h e = absurd cc
+length-next {N} k (Ok x) tail others nodes h e = go (others x.1) refl e
+  where
+    go : (r : Result (List N) (List ℕ)) → others x.1 ≡ r → next_node (Ok x) tail (λ _. r) ≡ Ok nodes → length nodes ≡ suc k
+    go (Err rest) is p = absurd cc
+    go (Ok ns) is p = let made : x.0 ∷ ns ≡ nodes = cc in sym (ap length made) ∙ ap suc (h x.1 ns is)
+
+length-nodes_from : {N : Type 0} (read : List ℕ → Result (N × List ℕ) ViewFault) (count : ℕ) (tail : List ℕ) (nodes : List N) → nodes_from read count tail ≡ Ok nodes → length nodes ≡ count
+length-nodes_from read zero [] nodes e = let none : [] ≡ nodes = cc in sym (ap length none)
+length-nodes_from read zero (b ∷ tail) nodes e = absurd cc
+length-nodes_from read (suc count) tail nodes e = length-next count (read tail) tail (nodes_from read count) nodes (length-nodes_from read count) e
+
+pub length-nodes_in : {N : Type 0} (read : List ℕ → Result (N × List ℕ) ViewFault) (map : OpenMap) (nodes : List N) → nodes_in read map ≡ Ok nodes → length nodes ≡ map.count
+unfolding nodes_in
+length-nodes_in read map nodes e = length-nodes_from read map.count (drop map.first_node map.file) nodes e

@@ -6,7 +6,7 @@ ghost use Rattle.acfg_images.specs.Code.{Tells};
 ghost use Rattle.acfg_images.specs.Views.{Answers, opened_of};
 
 use crate::checked::Checked;
-use crate::disagree::{find_bits, find_disagreement};
+use crate::disagree::find_behind_maps;
 use crate::fault::ImageFault;
 use crate::maps::{check_flags, check_packages};
 use crate::purpose::Use;
@@ -73,10 +73,7 @@ fn check_views<'a, L: Ledger>(
     let packages = check_packages(alloc, &views.package_map, size, steps)?;
     let size = set.flag_map().len() as u32;
     let flags = check_flags(alloc, &views.flag_map, size, steps)?;
-    if let Some(fault) = find_bits(&views, purpose) {
-        return Err(fault);
-    }
-    match find_disagreement(alloc, &views, &packages.nodes, &flags.nodes)? {
+    match find_behind_maps(alloc, &views, purpose, &packages.nodes, &flags.nodes)? {
         Some(fault) => Err(fault),
         None => Ok(Checked::new(views)),
     }

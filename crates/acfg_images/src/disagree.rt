@@ -2,7 +2,7 @@
 
 ghost use Rattle.std.specs.Prelude.{◌≡◌, ◌<◌, ◌^◌, IfOk, EachIndex, length, slice_index, slice_index_or, true, false, None, map as mapped};
 ghost use Rattle.acfg_views.specs.Reading.{package_of, flag_of};
-ghost use Rattle.acfg_images.specs.Faults.{bits_fault, container_fault, id_fault, count_fault, package_fault, index_fault, stray_id, indexed_fault, disagreement};
+ghost use Rattle.acfg_images.specs.Faults.{or_else, bits_fault, container_fault, id_fault, count_fault, package_fault, index_fault, stray_id, indexed_fault, disagreement};
 ghost use Rattle.acfg_images.specs.Code.{HasStarts, kind_fault_by};
 ghost use Rattle.acfg_images.specs.Views.{opened_of};
 
@@ -202,4 +202,23 @@ pub(crate) fn find_disagreement(
         return Ok(Some(fault));
     }
     find_by_index(alloc, &views.infos, packages, flags)
+}
+
+/// The first fault behind the maps: bits, and then what has to agree.
+pub(crate) fn find_behind_maps(
+    alloc: Global,
+    views: &Views<'_>,
+    purpose: Use,
+    packages: &[PackageNode<'_>],
+    flags: &[FlagNode<'_>],
+) -> Result<Option<ImageFault>, AllocError>
+    requires packages { length packages.now < 2 ^ 32 }
+    requires flags { length flags.now ≡ views.now.flag_map.count }
+    requires few { length flags.now < 2 ^ 32 }
+    ensures { IfOk result (λ fault. fault ≡ or_else (bits_fault purpose (opened_of views.now)) (disagreement (opened_of views.now) (mapped package_of packages.now) (mapped flag_of flags.now))) }
+{
+    match find_bits(views, purpose) {
+        Some(fault) => Ok(Some(fault)),
+        None => find_disagreement(alloc, views, packages, flags),
+    }
 }

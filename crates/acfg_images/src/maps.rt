@@ -1,6 +1,6 @@
 //! Whole maps: nodes, keys, buckets and links.
 
-ghost use Rattle.std.specs.Prelude.{◌≡◌, length, map as mapped};
+ghost use Rattle.std.specs.Prelude.{◌≡◌, ◌<◌, ◌^◌, IfOk, length, map as mapped};
 ghost use Rattle.acfg_views.specs.Reading.{package_of, flag_of};
 ghost use Rattle.acfg_images.specs.Faults.{package_part, flag_part};
 ghost use Rattle.acfg_images.specs.Code.{Tells};
@@ -22,7 +22,9 @@ pub(crate) fn check_packages<'a, L: Ledger>(
     steps: &mut Steps<L>,
 ) -> Result<Packages<'a>, ImageFault>
     requires { size ≡ length map.now.file }
-    ensures { Tells (λ read. mapped package_of read.nodes.items) result (package_part map.now) }
+    ensures nodes { Tells (λ read. mapped package_of read.nodes.items) result (package_part map.now) }
+    ensures count { IfOk result (λ read. length read.nodes.items ≡ map.now.count) }
+    ensures few { IfOk result (λ read. length read.nodes.items < 2 ^ 32) }
 {
     let packages = read_packages(alloc, map, size, steps)?;
     let buckets = package_buckets(alloc, map)?;
@@ -48,7 +50,9 @@ pub(crate) fn check_flags<'a, L: Ledger>(
     steps: &mut Steps<L>,
 ) -> Result<Flags<'a>, ImageFault>
     requires { size ≡ length map.now.file }
-    ensures { Tells (λ read. mapped flag_of read.nodes.items) result (flag_part map.now) }
+    ensures nodes { Tells (λ read. mapped flag_of read.nodes.items) result (flag_part map.now) }
+    ensures count { IfOk result (λ read. length read.nodes.items ≡ map.now.count) }
+    ensures few { IfOk result (λ read. length read.nodes.items < 2 ^ 32) }
 {
     let flags = read_flags(alloc, map, size, steps)?;
     let buckets = flag_buckets(alloc, map)?;

@@ -1,6 +1,6 @@
 //! The nodes of a map, read one after another.
 
-ghost use Rattle.std.specs.Prelude.{◌≡◌, ℕ, IfOk, length, map as mapped};
+ghost use Rattle.std.specs.Prelude.{◌≡◌, ◌<◌, ◌^◌, ℕ, IfOk, length, map as mapped};
 ghost use Rattle.acfg_views.specs.Reading.{package_at, package_of, flag_at, flag_of, bucket_count};
 ghost use Rattle.acfg_images.specs.declared.fault.FileType.TheVariants.{PackageMap as package_map, FlagMap as flag_map};
 ghost use Rattle.acfg_images.specs.Faults.{nodes_in, nodes_of};
@@ -39,6 +39,8 @@ pub(crate) fn read_packages<'a, L: Ledger>(
     ensures nodes { Tells (λ read. mapped package_of read.nodes.items) result (nodes_of package_map size (nodes_in package_at map.now)) }
     ensures links { IfOk result (λ read. links_of read.links.items ≡ package_links map.now.first_node (mapped package_of read.nodes.items)) }
     ensures buckets { IfOk result (λ read. HaveBuckets (bucket_count map.now) read.links.items) }
+    ensures count { IfOk result (λ read. length read.nodes.items ≡ map.now.count) }
+    ensures few { IfOk result (λ read. length read.nodes.items < 2 ^ 32) }
 {
     let count = map.count();
     let buckets = map.buckets();
@@ -78,6 +80,8 @@ pub(crate) fn read_flags<'a, L: Ledger>(
     ensures nodes { Tells (λ read. mapped flag_of read.nodes.items) result (nodes_of flag_map size (nodes_in flag_at map.now)) }
     ensures links { IfOk result (λ read. links_of read.links.items ≡ flag_links map.now.first_node (mapped flag_of read.nodes.items)) }
     ensures buckets { IfOk result (λ read. HaveBuckets (bucket_count map.now) read.links.items) }
+    ensures count { IfOk result (λ read. length read.nodes.items ≡ map.now.count) }
+    ensures few { IfOk result (λ read. length read.nodes.items < 2 ^ 32) }
 {
     let count = map.count();
     let buckets = map.buckets();

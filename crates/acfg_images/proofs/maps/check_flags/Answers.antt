@@ -10,8 +10,8 @@ use Rattle.acfg_images.specs.Faults.{unless, buckets_in, link_fault}
 use Rattle.acfg_images.proofs.Stages.{flags_stop, flags_linked, length-buckets_in, link_fault_is}
 use Rattle.acfg_images.proofs.maps.check_flags.Goals as goal
 
-pub returns-in_err-flags : goal.returns-in_err-flags
-returns-in_err-flags g c =
+pub returns-in_err-flags-clause-nodes : goal.returns-in_err-flags-clause-nodes
+returns-in_err-flags-clause-nodes g c =
     let p = err_from_is_err_and c.from_residual.result c.from_residual.ensures.1 in
     rw (p.1, p.2) (flags_stop c.args.map.now c.args.size c.in_err-flags.field-0.0 c.requires c.in_err-flags.ensures.nodes)
 
@@ -31,15 +31,15 @@ links_fault-requires-clause-room g c =
     let room = c.flag_first_bucket-first_bucket.ensures.room in
     omega (arith, size, room)
 
-pub returns-in-Some : goal.returns-in-Some
-returns-in-Some g c =
+pub returns-in-Some-clause-nodes : goal.returns-in-Some-clause-nodes
+returns-in-Some-clause-nodes g c =
     let map = c.args.map.now in
     let nodes = mapped flag_of c.in_ok-flags.flags.nodes.items in
     let linked = link_fault_is FlagMap map _ _ _ (flag_links map.first_node nodes) c.in_ok-fault.fault c.in_ok-fault.ensures c.flag_first_bucket-first_bucket.ensures.place (c.deref.ensures.value ∙ c.in_ok-buckets.ensures) (ap links_of c.deref-2.ensures.value ∙ c.in_ok-flags.ensures.links) in
     inr (flags_linked map c.args.size nodes c.in_ok-fault.fault c.requires c.in_ok-flags.ensures.nodes linked ∙ ap (λ (o : Option ImageFault). unless o (Ok nodes)) c.in-Some.is)
 
-pub returns : goal.returns
-returns g c =
+pub returns-clause-nodes : goal.returns-clause-nodes
+returns-clause-nodes g c =
     let map = c.args.map.now in
     let nodes = mapped flag_of c.in_ok-flags.flags.nodes.items in
     let linked = link_fault_is FlagMap map _ _ _ (flag_links map.first_node nodes) c.in_ok-fault.fault c.in_ok-fault.ensures c.flag_first_bucket-first_bucket.ensures.place (c.deref.ensures.value ∙ c.in_ok-buckets.ensures) (ap links_of c.deref-2.ensures.value ∙ c.in_ok-flags.ensures.links) in

@@ -1,5 +1,6 @@
 use Rattle.std.proofs.Common.{◌≡◌, ◌∙◌, ◌++◌, ◌∷◌, [], refl, sym, ap, inr, None, Some, arith}
 use Rattle.std.proofs.Common.{map as mapped}
+use Rattle.std.proofs.Math.ListN.{length-map}
 use Rattle.std.proofs.lemmas.List.{map_push}
 use Rattle.std.proofs.lemmas.List.Elements.{All-push}
 use Rattle.acfg_views.specs.Layout.{flag_map_type, flag_node, IsFlagNode}
@@ -10,7 +11,7 @@ use Rattle.acfg_images.specs.declared.fault.FileType.TheVariants.{FlagMap as the
 use Rattle.acfg_images.specs.Faults.{nodes_of}
 use Rattle.acfg_images.specs.Links.{flag_node_key}
 use Rattle.acfg_images.specs.Code.{HasBucket, links_of, link_of}
-use Rattle.acfg_images.proofs.Walk.{nodes_within, so_far_none, so_far_next, walk_refused, walk_trailing, walk_done}
+use Rattle.acfg_images.proofs.Walk.{nodes_within, so_far_none, so_far_next, walk_refused, walk_trailing, walk_done, length-nodes_in}
 use Rattle.acfg_images.proofs.nodes.read_flags.Goals as goal
 
 pub loop-init : goal.loop-init
@@ -50,3 +51,14 @@ returns-clause-links g c =
 
 pub returns-clause-buckets : goal.returns-clause-buckets
 returns-clause-buckets g c = rw (← c.buckets-buckets.ensures.count) c.loop.invariant.1
+
+pub returns-clause-count : goal.returns-clause-count
+returns-clause-count g c =
+    let done = (walk_done flag_at flag_node flag_node_key (λ n. n.next) c.args.map.now c.args.size c.loop.counter _ _ c.loop.at c.requires (omega (arith, c.loop-test.false, c.count-count.ensures)) c.if-at-size.false c.loop.invariant.0).0 in
+    sym (length-map c.loop.nodes.items flag_of) ∙ length-nodes_in flag_at c.args.map.now _ done
+
+pub returns-clause-few : goal.returns-clause-few
+returns-clause-few g c =
+    let done = (walk_done flag_at flag_node flag_node_key (λ n. n.next) c.args.map.now c.args.size c.loop.counter _ _ c.loop.at c.requires (omega (arith, c.loop-test.false, c.count-count.ensures)) c.if-at-size.false c.loop.invariant.0).0 in
+    let count = sym (length-map c.loop.nodes.items flag_of) ∙ length-nodes_in flag_at c.args.map.now _ done in
+    omega (arith, count, c.count-count.ensures, c.count-count.type_inv)
