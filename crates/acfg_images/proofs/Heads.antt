@@ -37,23 +37,24 @@ module _ (firsts after : List ℕ) (links : List NodeLink) (i j : ℕ) (d : Node
       let link = get_or links i d in
       let link_at = link.at in
       let goal_is : get_or (set firsts link.bucket link.at) b 0 ≡ first_in (length firsts) b (links_of (link ∷ drop j links)) =
-        elim (cases_eq link.bucket b) [
-          | inl here ↦
-              let test : eqb (bucket_of (length firsts) (link_of link).key) b ≡ true = equal (sym bucket ∙ here) in
-              let found : get_or (set firsts link.bucket link.at) b 0 ≡ link.at = subst (λ (k : ℕ). get_or (set firsts link.bucket link.at) k 0 ≡ link.at) here (get_or-set_same firsts link.bucket link.at 0 below) in
-              let first : first_in (length firsts) b (links_of (link ∷ drop j links)) ≡ link.at = rw test refl in
-              found ∙ sym first
-          | inr other ↦
-              let test : eqb (bucket_of (length firsts) (link_of link).key) b ≡ false = unequal (λ e. other (bucket ∙ e)) in
-              let ne : b ≢ link.bucket = λ e. other (sym e) in
-              let found : get_or (set firsts link.bucket link.at) b 0 ≡ get_or firsts b 0 = rw get_or-set_other refl in
-              let first : first_in (length firsts) b (links_of (link ∷ drop j links)) ≡ first_in (length firsts) b (links_of (drop j links)) = rw test refl in
-              found ∙ heads b (omega (arith, len)) ∙ sym first
-        ] in
+      elim (cases_eq link.bucket b) [
+        | inl here ↦
+            let test : eqb (bucket_of (length firsts) (link_of link).key) b ≡ true = equal (sym bucket ∙ here) in
+            let found : get_or (set firsts link.bucket link.at) b 0 ≡ link.at = subst (λ (k : ℕ). get_or (set firsts link.bucket link.at) k 0 ≡ link.at) here (get_or-set_same firsts link.bucket link.at 0 below) in
+            let first : first_in (length firsts) b (links_of (link ∷ drop j links)) ≡ link.at = rw test refl in
+            found ∙ sym first
+        | inr other ↦
+            let test : eqb (bucket_of (length firsts) (link_of link).key) b ≡ false = unequal (λ e. other (bucket ∙ e)) in
+            let ne : b ≢ link.bucket = λ e. other (sym e) in
+            let found : get_or (set firsts link.bucket link.at) b 0 ≡ get_or firsts b 0 = rw get_or-set_other refl in
+            let first : first_in (length firsts) b (links_of (link ∷ drop j links)) ≡ first_in (length firsts) b (links_of (drop j links)) = rw test refl in
+            found ∙ heads b (omega (arith, len)) ∙ sym first
+      ] in
       rw (len, after_is, back) goal_is
     where
       equal : {a b : ℕ} → a ≡ b → eqb a b ≡ true
       equal {a} {b} e = grind (arith, nat_tests)
+
       unequal : {a b : ℕ} → (a ≡ b → ⊥) → eqb a b ≡ false
       unequal {a} {b} e = grind (arith, nat_tests)
 
@@ -84,7 +85,7 @@ pub chain_is : (first_bucket : ℕ) (buckets shown firsts : List ℕ) (links : L
     → or_else (option_map (λ b. first_bucket + 4 * b) r) next ≡ wrong_chain first_bucket buckets (links_of links)
 chain_is first_bucket buckets shown firsts links r next same len heads r_is next_is =
     let due : (b : ℕ) → b < 0 + length buckets → not (eqb (get_or buckets b 0) (get_or shown b 0)) ≡ not (eqb (get_or buckets b 0) (first_in (length buckets) b (links_of links))) =
-      λ b lt. ap (λ (x : ℕ). not (eqb (get_or buckets b 0) x)) (ap (λ (f : List ℕ). get_or f b 0) same ∙ heads b (omega arith) ∙ ap (λ (n : ℕ). first_in n b (links_of links)) len) in
+    λ b lt. ap (λ (x : ℕ). not (eqb (get_or buckets b 0) x)) (ap (λ (f : List ℕ). get_or f b 0) same ∙ heads b (omega arith) ∙ ap (λ (n : ℕ). first_in n b (links_of links)) len) in
     let wrong : r ≡ wrong_bucket buckets (links_of links) = r_is ∙ least-same _ _ 0 (length buckets) due in
     let others : next ≡ wrong_next (length buckets) (links_of links) = next_is ∙ ap (λ (n : ℕ). wrong_next n (links_of links)) len in
     rw (wrong, others) refl

@@ -77,6 +77,7 @@ same_key-is a b e =
   where
     key : Option ℕ → List ℕ → NodeKey
     key o n = record { owner = o; name = n }
+
     parts : (o o' : Option ℕ) (n n' : List ℕ) → o ≡ o' → n ≡ n' → key o n ≡ key o' n'
     parts o o' n n' p q = cc
 
@@ -84,13 +85,14 @@ same_key-is a b e =
 pub kept_eq : (count : ℕ) (k q : Kept) → InBucket count k → InBucket count q → is_eq (kept_cmp k q) ≡ same_key (key_in q) (key_in k)
 kept_eq count k q in_k in_q =
     let all : is_eq (kept_cmp k q) ≡ ((eqb k.0 q.0 && same_owner k.1 q.1) && bytes_eq k.2.now q.2.now) =
-      both_eq (ordering_then (nat_cmp k.0 q.0) (option_cmp nat_cmp k.1 q.1)) (slice_cmp nat_cmp k.2.now q.2.now)
-      ∙ rw (both_eq (nat_cmp k.0 q.0) (option_cmp nat_cmp k.1 q.1), nat_eq_is k.0 q.0, owner_eq_is k.1 q.1, is_eq-slice_cmp k.2.now q.2.now) refl in
+    both_eq (ordering_then (nat_cmp k.0 q.0) (option_cmp nat_cmp k.1 q.1)) (slice_cmp nat_cmp k.2.now q.2.now)
+    ∙ rw (both_eq (nat_cmp k.0 q.0) (option_cmp nat_cmp k.1 q.1), nat_eq_is k.0 q.0, owner_eq_is k.1 q.1, is_eq-slice_cmp k.2.now q.2.now) refl in
     all ∙ drop_first (eqb k.0 q.0) (same_owner k.1 q.1) (bytes_eq k.2.now q.2.now) (λ e. let same = same_key-is (key_in k) (key_in q) e in equal (in_k ∙ ap (bucket_of count) same ∙ sym in_q))
     ∙ same_key-sym (key_in k) (key_in q)
   where
     equal : {a b : ℕ} → a ≡ b → eqb a b ≡ true
     equal {a} {b} e = grind (arith, nat_tests)
+
     drop_first : (a b c : Bool) → ((b && c) ≡ true → a ≡ true) → ((a && b) && c) ≡ (b && c)
     drop_first true b c h = refl
     drop_first false true true h = absurd (let e = h refl in cc)

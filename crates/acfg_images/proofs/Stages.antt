@@ -118,10 +118,13 @@ same_files a b c d a' b' c' d' p q r s = cc
 
 abbrev o_all : OpenMap → OpenMap → OpenList → OpenList → Result Opened ImageFault
 o_all packages flags values infos = Ok (record { package_map = packages; flag_map = flags; values = values; infos = infos })
+
 abbrev o_values : Files → OpenMap → OpenMap → OpenList → Result Opened ImageFault
 o_values files packages flags values = view_of FlagInfo (opened_list flag_info_type files.flag_info) >>= o_all packages flags values
+
 abbrev o_flags : Files → OpenMap → OpenMap → Result Opened ImageFault
 o_flags files packages flags = view_of FlagVal (opened_list flag_val_type files.flag_val) >>= o_values files packages flags
+
 abbrev o_packages : Files → OpenMap → Result Opened ImageFault
 o_packages files packages = view_of FlagMap (opened_map flag_map_type files.flag_map) >>= o_flags files packages
 
@@ -135,8 +138,8 @@ opened_files-same files opened e =
     let made : Opened = record { package_map = a.0; flag_map = b.0; values = c.0; infos = d.0 } in
     let is : made ≡ opened = ok_is made opened d.2 in
     ap files_in (sym is) ∙ same_files a.0.file b.0.file c.0.file d.0.file files.package_map files.flag_map files.flag_val files.flag_info
-      (opened_map-offsets _ _ _ (view_ok PackageMap _ a.0 a.1)).file (opened_map-offsets _ _ _ (view_ok FlagMap _ b.0 b.1)).file
-      (opened_list-offsets _ _ _ (view_ok FlagVal _ c.0 c.1)).file (opened_list-offsets _ _ _ (view_ok FlagInfo _ d.0 d.1)).file
+    (opened_map-offsets _ _ _ (view_ok PackageMap _ a.0 a.1)).file (opened_map-offsets _ _ _ (view_ok FlagMap _ b.0 b.1)).file
+    (opened_list-offsets _ _ _ (view_ok FlagVal _ c.0 c.1)).file (opened_list-offsets _ _ _ (view_ok FlagInfo _ d.0 d.1)).file
 
 pub opened_same : (files : Files) (opened : Opened) → opened_set files ≡ Ok opened → files_in opened ≡ files
 unfolding opened_set

@@ -62,9 +62,9 @@ marked_more marks after packages i d lt so_far after_is k k_lt =
     let len : length after ≡ length marks = ap length after_is ∙ length-set marks node.id true in
     let k_in : k < length marks = omega arith in
     let ids : list_any (λ node. eqb node.id k) (map package_of (take (i + 1) packages)) ≡ (list_any (λ node. eqb node.id k) (map package_of (take i packages)) || (eqb node.id k || false)) =
-      ap (λ (ps : List PackageNode). list_any (λ node. eqb node.id k) (map package_of ps)) (take_more packages i d lt)
-      ∙ ap (λ (ps : List Package). list_any (λ node. eqb node.id k) ps) (map_push package_of (take i packages) node)
-      ∙ list_any-append (λ (node : Package). eqb node.id k) (map package_of (take i packages)) (package_of node ∷ []) in
+    ap (λ (ps : List PackageNode). list_any (λ node. eqb node.id k) (map package_of ps)) (take_more packages i d lt)
+    ∙ ap (λ (ps : List Package). list_any (λ node. eqb node.id k) ps) (map_push package_of (take i packages) node)
+    ∙ list_any-append (λ (node : Package). eqb node.id k) (map package_of (take i packages)) (package_of node ∷ []) in
     rw ids (elim (cases_eq node.id k) [
       | inl here ↦
           let found : get_or after k false ≡ true = ap (λ (m : List Bool). get_or m k false) after_is ∙ subst (λ (j : ℕ). get_or (set marks node.id true) j false ≡ true) here (get_or-set_same marks node.id true false (omega arith)) in
@@ -78,6 +78,7 @@ marked_more marks after packages i d lt so_far after_is k k_lt =
     or_true : (b : Bool) → (b || (true || false)) ≡ true
     or_true true = refl
     or_true false = refl
+
     or_false : (b : Bool) → (b || (false || false)) ≡ b
     or_false true = refl
     or_false false = refl
@@ -96,19 +97,19 @@ starts_more starts after packages i j d lt j_is so_far after_is id id_lt =
     let len : length after ≡ length starts = ap length after_is ∙ length-set starts node.id node.start in
     let back : drop i packages ≡ node ∷ drop j packages = drop-cons packages i d lt ∙ ap (λ (k : ℕ). node ∷ drop k packages) (sym (j_is ∙ add-one i)) in
     let goal_is : get_or after id 0 ≡ start_of (map package_of (node ∷ drop j packages)) id =
-      elim (cases_eq node.id id) [
-        | inl here ↦
-            let test : eqb node.id id ≡ true = equal here in
-            let found : get_or after id 0 ≡ node.start = ap (λ (m : List ℕ). get_or m id 0) after_is ∙ subst (λ (k : ℕ). get_or (set starts node.id node.start) k 0 ≡ node.start) here (get_or-set_same starts node.id node.start 0 (omega arith)) in
-            let first : start_of (map package_of (node ∷ drop j packages)) id ≡ node.start = rw test refl in
-            found ∙ sym first
-        | inr other ↦
-            let test : eqb node.id id ≡ false = unequal other in
-            let ne : id ≢ node.id = λ e. other (sym e) in
-            let found : get_or after id 0 ≡ get_or starts id 0 = ap (λ (m : List ℕ). get_or m id 0) after_is ∙ get_or-set_other starts node.id id node.start 0 ne in
-            let first : start_of (map package_of (node ∷ drop j packages)) id ≡ start_of (map package_of (drop j packages)) id = rw test refl in
-            found ∙ so_far id (omega arith) ∙ sym first
-      ] in
+    elim (cases_eq node.id id) [
+      | inl here ↦
+          let test : eqb node.id id ≡ true = equal here in
+          let found : get_or after id 0 ≡ node.start = ap (λ (m : List ℕ). get_or m id 0) after_is ∙ subst (λ (k : ℕ). get_or (set starts node.id node.start) k 0 ≡ node.start) here (get_or-set_same starts node.id node.start 0 (omega arith)) in
+          let first : start_of (map package_of (node ∷ drop j packages)) id ≡ node.start = rw test refl in
+          found ∙ sym first
+      | inr other ↦
+          let test : eqb node.id id ≡ false = unequal other in
+          let ne : id ≢ node.id = λ e. other (sym e) in
+          let found : get_or after id 0 ≡ get_or starts id 0 = ap (λ (m : List ℕ). get_or m id 0) after_is ∙ get_or-set_other starts node.id id node.start 0 ne in
+          let first : start_of (map package_of (node ∷ drop j packages)) id ≡ start_of (map package_of (drop j packages)) id = rw test refl in
+          found ∙ so_far id (omega arith) ∙ sym first
+    ] in
     rw back goal_is
 
 -- ---- counts
@@ -335,7 +336,7 @@ indexed_then infos starts indexes packages flags r kind has known count indexes_
     let first : None ≡ index_fault (map (index_of packages) flags) = sym none ∙ r_is ∙ ap index_fault (indexes_are ∙ same_indexes starts packages flags has known) in
     let tests : (k : ℕ) → k < 0 + infos.count → not (list_all (kind_fits infos starts k) flags) ≡ not (list_all (bit_fits packages infos k) flags) = λ k lt. ap not (same_fits infos starts packages k flags has known) in
     let second : kind ≡ kind_fault packages flags infos =
-      kind_is ∙ ap (option_map (λ k. Disagree Kind k (byte_in infos k))) (least-same _ _ 0 infos.count tests ∙ ap (least (λ k. not (list_all (bit_fits packages infos k) flags)) 0) count) in
+    kind_is ∙ ap (option_map (λ k. Disagree Kind k (byte_in infos k))) (least-same _ _ 0 infos.count tests ∙ ap (least (λ k. not (list_all (bit_fits packages infos k) flags)) 0) count) in
     second ∙ ap (λ (o : Option ImageFault). or_else o (kind_fault packages flags infos)) first
 
 pub indexed_result : {E : Type 0} (infos : OpenList) (starts seen indexes : List ℕ) (packages : List Package) (flags : List Flag) (r : Option ImageFault) (answer : Result (Option ImageFault) E) → HasStarts starts packages → stray_id (length starts) flags ≡ None → infos.count ≡ length flags

@@ -20,9 +20,9 @@ module _ {N : Type 0} where
 
   regroup : (front : List N) (n : N) (rest : List ℕ) (tail : List ℕ) (others : List ℕ → Result (List N) (List ℕ)) → with_front front (next_node (Ok (n, rest)) tail others) ≡ with_front (front ++ n ∷ []) (others rest)
   regroup front n rest tail others = elim (others rest) as (λ r. with_front front (next_node (Ok (n, rest)) tail (λ _. r)) ≡ with_front (front ++ n ∷ []) r) [
-      | Ok nodes ↦ ap (λ (ns : List N). Ok ns) (sym (append_assoc front (n ∷ []) nodes))
-      | Err r ↦ refl
-    ]
+    | Ok nodes ↦ ap (λ (ns : List N). Ok ns) (sym (append_assoc front (n ∷ []) nodes))
+    | Err r ↦ refl
+  ]
 
   -- one more link
   pub links_push : (node : N → List ℕ) (key : N → NodeKey) (next : N → ℕ) (made : List Link) (link : Link) (first at end : ℕ) (front : List N) (n : N)
@@ -40,7 +40,7 @@ module _ {N : Type 0} where
     goes_on front count i tail n rest total lt h so_far =
         let k : count - i ≡ suc (count - (i + 1)) = omega arith in
         let one : with_front front (nodes_from read (count - i) tail) ≡ with_front (front ++ n ∷ []) (nodes_from read (count - (i + 1)) rest) =
-          rw (k, h) (regroup front n rest tail (nodes_from read (count - (i + 1)))) in
+        rw (k, h) (regroup front n rest tail (nodes_from read (count - (i + 1)))) in
         sym one ∙ so_far
 
     pub stops : (front : List N) (count i : ℕ) (tail : List ℕ) (f : ViewFault) (total : Result (List N) (List ℕ)) → i < count → read tail ≡ Err f
@@ -88,7 +88,7 @@ module _ {N : Type 0} where
         let whole : length map.file - off ≡ length (node b.0.0) + length b.0.1 = sym (length-drop off map.file) ∙ ap length f.0.parts ∙ length-append (node b.0.0) b.0.1 in
         let at : length map.file - length b.0.1 ≡ off + length (node b.0.0) = omega arith in
         let rest : drop (off + length (node b.0.0)) map.file ≡ b.0.1 =
-          sym (drop-drop (length (node b.0.0)) off map.file) ∙ ap (drop (length (node b.0.0))) f.0.parts ∙ drop_at (node b.0.0) b.0.1 (length (node b.0.0)) refl in
+        sym (drop-drop (length (node b.0.0)) off map.file) ∙ ap (drop (length (node b.0.0))) f.0.parts ∙ drop_at (node b.0.0) b.0.1 (length (node b.0.0)) refl in
         let behind_is : drop (length map.file - length b.0.1) map.file ≡ b.0.1 = ap (λ (k : ℕ). drop k map.file) at ∙ rest in
         let made : N × ℕ = (b.0.0, length map.file - length b.0.1) in
         let facts : IsRead node IsNode map off made.0 made.1 = record {
@@ -101,6 +101,7 @@ module _ {N : Type 0} where
       where
         ok : N × ℕ → Result (N × ℕ) ViewFault
         ok x = Ok x
+
         pair : (x y : N × ℕ) → ok x ≡ ok y → x ≡ y
         pair x y p = cc
 
@@ -137,7 +138,6 @@ module _ {N : Type 0} where
           linked = links_push node key next links link map.first_node at end nodes n so.linked link_is r.behind;
         }
 
-
 -- nodes begin within the file
 pub nodes_within : (file_type : ℕ) (map : OpenMap) → IsOpenMap file_type map → map.first_node ≤ length map.file
 nodes_within file_type map is = (opened_map-offsets file_type map.file map is.opened).offsets.within
@@ -169,9 +169,10 @@ module _ {N : Type 0} (read : List ℕ → Result (N × List ℕ) ViewFault) (no
       → (nodes_in read map ≡ Ok nodes) × (links ≡ links_from node key next map.first_node nodes)
   unfolding nodes_in
   walk_done size i nodes links at size_is le there so =
-      let none : length (drop at map.file) ≡ 0 = omega (arith, length-drop at map.file) in
-      (finished read nodes map.count i (drop at map.file) _ le none so.front,
-       sym (append-nil links) ∙ so.linked [] ∙ ap (links_from node key next map.first_node) (append-nil nodes))
+      let none : length (drop at map.file) ≡ 0 = omega (arith, length-drop at map.file) in (
+        finished read nodes map.count i (drop at map.file) _ le none so.front,
+        sym (append-nil links) ∙ so.linked [] ∙ ap (links_from node key next map.first_node) (append-nil nodes),
+      )
 
 -- as many nodes are read as there have to be
 length-next : {N : Type 0} (k : ℕ) (r : Result (N × List ℕ) ViewFault) (tail : List ℕ) (others : List ℕ → Result (List N) (List ℕ)) (nodes : List N) → ((rest : List ℕ) (ns : List N) → others rest ≡ Ok ns → length ns ≡ k) → next_node r tail others ≡ Ok nodes → length nodes ≡ suc k

@@ -1,5 +1,6 @@
 -- Private structs as what they stand for, and answers of private functions. No public clause cites them.
-use Rattle.std.specs.Prelude.{◌≡◌, ℕ, ◌+◌, ◌⊎◌, ◌<◌, List, length, map, All, Bool, nat_lt, ◌==◌, ◌||◌, not, false, slice_index, slice_set, Option, Some, None, Result, Ok, Err, if◌then◌else◌}
+use Rattle.std.specs.Prelude.{◌≡◌, ℕ, ◌+◌, ◌⊎◌, ◌<◌, List, length, map, All, Bool, nat_lt, ◌==◌, ◌||◌, not, false}
+use Rattle.std.specs.Prelude.{slice_index, slice_set, Option, Some, None, Result, Ok, Err, if◌then◌else◌}
 use Rattle.std.specs.List.{list_all}
 use Rattle.std.specs.Option.{option_map}
 use Rattle.acfg_views.specs.Layout.{Package, Flag}
@@ -49,7 +50,8 @@ kind_fits infos starts k flag = not (table_index starts flag == k) || bit_agrees
 -- the flag's index, where it is below the count and the bit there isn't the flag's type
 abbrev pub misfit : OpenList → List ℕ → Flag → Option ℕ
 misfit infos starts flag =
-    if nat_lt (table_index starts flag) infos.count then (if bit_agrees infos (table_index starts flag) flag then None else Some (table_index starts flag)) else None
+    if nat_lt (table_index starts flag) infos.count then (if bit_agrees infos
+    (table_index starts flag) flag then None else Some (table_index starts flag)) else None
 
 -- marks without the one of a place
 abbrev pub unmarked : Option ℕ → List Bool → List Bool
@@ -63,4 +65,5 @@ HasStarts starts packages = (id : ℕ) → id < length starts → slice_index st
 -- the fault of a flag's type, by a table of starts and over all infos
 abbrev pub kind_fault_by : List ℕ → List Flag → OpenList → Option ImageFault
 kind_fault_by starts flags infos =
-    option_map (λ k. Disagree Kind k (byte_in infos k)) (least (λ k. not (list_all (kind_fits infos starts k) flags)) 0 infos.count)
+    option_map (λ k. Disagree Kind k (byte_in infos k)) (least (λ k. not (list_all
+    (kind_fits infos starts k) flags)) 0 infos.count)

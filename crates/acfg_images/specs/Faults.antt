@@ -1,19 +1,23 @@
 -- The first fault of four files, in the order in which it is told: sizes, headers, nodes with their buckets and links
 -- (package.map and then flag.map), bits, and what has to agree.
-use Rattle.std.specs.Prelude.{◌≡◌, ℕ, zero, suc, ◌+◌, ◌-◌, ◌*◌, ◌^◌, List, [], ◌∷◌, ◌++◌, length, map, drop, min, count_by, slice_index, Bool, true, false, nat_lt, nat_le, ◌==◌, ◌&&◌, ◌||◌, not, Option, Some, None, Result, Ok, Err, unwrap_or, if◌then◌else◌}
+use Rattle.std.specs.Prelude.{◌≡◌, ℕ, zero, suc, ◌+◌, ◌-◌, ◌*◌, ◌^◌, List, [], ◌∷◌, ◌++◌, length, map, drop, min}
+use Rattle.std.specs.Prelude.{count_by, slice_index, Bool, true, false, nat_lt, nat_le, ◌==◌, ◌&&◌, ◌||◌, not, Option}
+use Rattle.std.specs.Prelude.{Some, None, Result, Ok, Err, unwrap_or, if◌then◌else◌}
 use Rattle.std.specs.List.{list_any, list_all}
 use Rattle.std.specs.Option.{option_map}
 use Rattle.std.specs.Str.{bytes_eq}
 use Rattle.acfg_base.specs.declared.releases.Kind.{Kind}
 use Rattle.acfg_views.specs.declared.fault.ViewFault.{ViewFault}
 use Rattle.acfg_views.specs.Fields.{numbers}
-use Rattle.acfg_views.specs.Layout.{Package, Flag, MapParts, package_map_type, flag_map_type, flag_val_type, flag_info_type}
-use Rattle.acfg_views.specs.Reading.{OpenMap, OpenList, opened_map, opened_list, package_at, flag_at, bucket_count, byte_in}
+use Rattle.acfg_views.specs.Layout.{Package, Flag, MapParts, package_map_type, flag_map_type, flag_val_type}
+use Rattle.acfg_views.specs.Layout.{flag_info_type}
+use Rattle.acfg_views.specs.Reading.{OpenMap, OpenList, opened_map, opened_list, package_at, flag_at, bucket_count}
+use Rattle.acfg_views.specs.Reading.{byte_in}
 use Rattle.acfg_views.specs.Parts.{parts_of, list_parts_of}
 use Rattle.acfg_images.specs.declared.fault.FileType.{FileType}
 use Rattle.acfg_images.specs.declared.fault.FileType.TheVariants.{PackageMap, FlagMap, FlagVal, FlagInfo}
 use Rattle.acfg_images.specs.declared.fault.Point2.{Point2}
-use Rattle.acfg_images.specs.declared.fault.Point2.TheVariants.{Container, Id, Count, Index} 
+use Rattle.acfg_images.specs.declared.fault.Point2.TheVariants.{Container, Id, Count, Index}
 use Rattle.acfg_images.specs.declared.fault.Point2.TheVariants as on
 use Rattle.acfg_images.specs.declared.fault.ImageFault.{ImageFault}
 use Rattle.acfg_images.specs.declared.fault.ImageFault.TheVariants.{TooLarge, View, Node, Twice, Chain, Bits, Disagree}
@@ -42,7 +46,8 @@ or_else (Some first) later = Some first
 -- ---- sizes
 
 abbrev pub too_large : Files → Option ImageFault
-too_large files = if nat_lt MOST_BYTES (bytes_in_all files) then Some (TooLarge (min (bytes_in_all files) (2 ^ 64 - 1))) else None
+too_large files =
+    if nat_lt MOST_BYTES (bytes_in_all files) then Some (TooLarge (min (bytes_in_all files) (2 ^ 64 - 1))) else None
 
 -- ---- headers
 
@@ -69,7 +74,8 @@ opened_files files = do
 
 -- Nodes are read one after another, as many as there have to be. Where one is refused, or bytes stand behind the last
 -- one, these are the bytes from there on.
-abbrev pub next_node : {N : Type 0} → Result (N × List ℕ) ViewFault → List ℕ → (List ℕ → Result (List N) (List ℕ)) → Result (List N) (List ℕ)
+abbrev pub next_node : {N : Type 0} → Result (N × List ℕ) ViewFault → List ℕ → (List ℕ
+    → Result (List N) (List ℕ)) → Result (List N) (List ℕ)
 next_node (Err fault) tail others = Err tail
 next_node (Ok (node, rest)) tail others = behind node (others rest)
   where
@@ -95,30 +101,35 @@ nodes_of file size (Err rest) = Err (Node file (size - length rest))
 -- where the first node stands whose key an earlier node has
 abbrev pub twice_behind : List NodeKey → List Link → Option ℕ
 twice_behind earlier [] = None
-twice_behind earlier (link ∷ links) = if list_any (same_key link.key) earlier then Some link.at else twice_behind (earlier ++ link.key ∷ []) links
+twice_behind earlier (link ∷ links) =
+    if list_any (same_key link.key) earlier then Some link.at else twice_behind (earlier ++ link.key ∷ []) links
 
 abbrev pub twice : List Link → Option ℕ
 twice links = twice_behind [] links
 
 -- the first bucket that doesn't hold where its first node stands
 abbrev pub wrong_bucket : List ℕ → List Link → Option ℕ
-wrong_bucket buckets links = least (λ b. not (slice_index buckets b == first_in (length buckets) b links)) 0 (length buckets)
+wrong_bucket buckets links =
+    least (λ b. not (slice_index buckets b == first_in (length buckets) b links)) 0 (length buckets)
 
 -- where the first node stands whose next isn't that of the next node of its bucket
 abbrev pub wrong_next : ℕ → List Link → Option ℕ
 wrong_next count [] = None
-wrong_next count (link ∷ links) = if link.next == first_in count (bucket_of count link.key) links then wrong_next count links else Some link.at
+wrong_next count (link ∷ links) =
+    if link.next == first_in count (bucket_of count link.key) links then wrong_next count links else Some link.at
 
 -- the first wrong bucket, at its own place, or else the first node with a wrong next
 abbrev pub wrong_chain : (first_bucket : ℕ) → List ℕ → List Link → Option ℕ
-wrong_chain first_bucket buckets links = or_else (option_map (λ b. first_bucket + 4 * b) (wrong_bucket buckets links)) (wrong_next (length buckets) links)
+wrong_chain first_bucket buckets links =
+    or_else (option_map (λ b. first_bucket + 4 * b) (wrong_bucket buckets links)) (wrong_next (length buckets) links)
 
 abbrev pub buckets_in : OpenMap → List ℕ
 buckets_in map = numbers (bucket_count map) (drop map.first_bucket map.file)
 
 -- the first key that comes twice, or else the first wrong bucket or link
 abbrev pub wrong_links : FileType → (first_bucket : ℕ) → List ℕ → List Link → Option ImageFault
-wrong_links file first_bucket buckets links = or_else (option_map (Twice file) (twice links)) (option_map (Chain file) (wrong_chain first_bucket buckets links))
+wrong_links file first_bucket buckets links =
+    or_else (option_map (Twice file) (twice links)) (option_map (Chain file) (wrong_chain first_bucket buckets links))
 
 abbrev pub link_fault : FileType → OpenMap → List Link → Option ImageFault
 link_fault file map links = wrong_links file map.first_bucket (buckets_in map) links
@@ -178,15 +189,18 @@ same_bit false bit = not bit
 
 -- whether a flag, if it has this index, has the type of the read-write bit
 abbrev pub bit_fits : List Package → OpenList → ℕ → Flag → Bool
-bit_fits packages infos index flag = not (index_of packages flag == index) || same_bit (has_read_write (byte_in infos index)) (is_read_write flag.kind)
+bit_fits packages infos index flag =
+    not (index_of packages flag == index) || same_bit (has_read_write (byte_in infos index)) (is_read_write flag.kind)
 
 abbrev pub kind_fault : List Package → List Flag → OpenList → Option ImageFault
 kind_fault packages flags infos =
-    option_map (λ k. Disagree on.Kind k (byte_in infos k)) (least (λ k. not (list_all (bit_fits packages infos k) flags)) 0 (length flags))
+    option_map (λ k. Disagree on.Kind k (byte_in infos k)) (least (λ k. not (list_all
+    (bit_fits packages infos k) flags)) 0 (length flags))
 
 -- the first fault of global indexes, or else of the flags' types
 abbrev pub indexed_fault : List Package → List Flag → OpenList → Option ImageFault
-indexed_fault packages flags infos = or_else (index_fault (map (index_of packages) flags)) (kind_fault packages flags infos)
+indexed_fault packages flags infos =
+    or_else (index_fault (map (index_of packages) flags)) (kind_fault packages flags infos)
 
 abbrev pub disagreement : Opened → List Package → List Flag → Option ImageFault
 disagreement opened packages flags =

@@ -5,7 +5,13 @@ use Rattle.acfg_images.specs.declared.views.Views.{Views}
 use Rattle.acfg_images.specs.Faults.{Opened}
 
 abbrev pub opened_of : Views → Opened
-opened_of views = record { package_map = views.package_map; flag_map = views.flag_map; values = views.values; infos = views.infos }
+opened_of views = record {
+  package_map = views.package_map;
+  flag_map = views.flag_map;
+  values =
+      views.values;
+  infos = views.infos;
+}
 
 -- an answer that takes no memory, with its value seen by view, is this one
 abbrev pub Answers : {X Y : Type 0} → (X → Y) → Result X ImageFault → Result Y ImageFault → Type 0

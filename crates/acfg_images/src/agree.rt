@@ -1,6 +1,7 @@
 //! What the four files have to agree on, by tables of marks and counts.
 
-ghost use Rattle.std.specs.Prelude.{◌≡◌, ◌==◌, ◌<◌, ◌^◌, ◌+◌, ℕ, IfOk, IfSome, EachIndex, length, slice_index, slice_index_or, slice_set, true, map as mapped, not, count_by, false};
+ghost use Rattle.std.specs.Prelude.{◌≡◌, ◌==◌, ◌<◌, ◌^◌, ◌+◌, ℕ, IfOk, IfSome, EachIndex, length, slice_index};
+ghost use Rattle.std.specs.Prelude.{slice_index_or, slice_set, true, map as mapped, not, count_by, false};
 ghost use Rattle.std.specs.List.{list_any, list_all};
 ghost use Rattle.acfg_views.specs.Reading.{package_of, flag_of};
 ghost use Rattle.acfg_images.specs.Words.{least};
@@ -29,7 +30,8 @@ pub(crate) fn first_unmarked(marks: &[bool]) -> Option<u32>
 /// Marks each number that is the id of a package.
 pub(crate) fn mark_ids(marks: &mut [bool], packages: &[PackageNode<'_>])
     requires { EachIndex marks.old (λ k. slice_index_or marks.old k false ≡ false) }
-    ensures { EachIndex marks.new (λ k. slice_index_or marks.new k false ≡ list_any (λ node. node.id == k) (mapped package_of packages.now)) }
+    ensures { EachIndex marks.new (λ k. slice_index_or marks.new k false ≡ list_any (λ node. node.id == k)
+        (mapped package_of packages.now)) }
 {
     for node in packages {
         mark(marks, node.id);
@@ -144,7 +146,8 @@ pub(crate) fn unmark_wrong_kinds(
 )
     requires infos { length marks.old ≡ infos.now.count }
     requires all { EachIndex marks.old (λ k. slice_index_or marks.old k false ≡ true) }
-    ensures { EachIndex marks.new (λ k. slice_index_or marks.new k false ≡ list_all (kind_fits infos.now starts.now k) (mapped flag_of flags.now)) }
+    ensures { EachIndex marks.new (λ k. slice_index_or marks.new k false ≡ list_all
+        (kind_fits infos.now starts.now k) (mapped flag_of flags.now)) }
 {
     for flag in flags {
         unmark(marks, wrong_kind(infos, starts, *flag));

@@ -1,6 +1,7 @@
 //! Keys, buckets and links of a map.
 
-ghost use Rattle.std.specs.Prelude.{◌≡◌, ◌^◌, ◌<◌, ◌+◌, ◌*◌, IfOk, EachIndex, length, slice_index, slice_set, ◌==◌, not, IfSome};
+ghost use Rattle.std.specs.Prelude.{◌≡◌, ◌^◌, ◌<◌, ◌+◌, ◌*◌, IfOk, EachIndex, length, slice_index, slice_set, ◌==◌};
+ghost use Rattle.std.specs.Prelude.{not, IfSome};
 ghost use Rattle.acfg_images.specs.Words.{least};
 ghost use Rattle.acfg_images.specs.Links.{first_in};
 ghost use Rattle.acfg_images.specs.Faults.{twice, wrong_chain, wrong_next as next_fault};
@@ -66,7 +67,8 @@ fn wrong_in(
 fn first_different(buckets: &[u32], firsts: &[u32]) -> Option<u32>
     requires same { length firsts.now ≡ length buckets.now }
     requires small { length buckets.now < 2 ^ 32 }
-    ensures first { result ≡ least (λ b. not (slice_index buckets.now b == slice_index firsts.now b)) 0 (length buckets.now) }
+    ensures first { result ≡ least (λ b. not (slice_index buckets.now b == slice_index firsts.now b)) 0
+        (length buckets.now) }
     ensures within { IfSome result (λ b. b < length buckets.now) }
 {
     for b in 0..buckets.len() {
@@ -82,7 +84,8 @@ fn wrong_next(firsts: &mut [u32], links: &[NodeLink<'_>]) -> Option<u32>
     requires buckets { HaveBuckets (length firsts.old) links.now }
     requires some { 0 < length firsts.old }
     requires none { EachIndex firsts.old (λ b. slice_index firsts.old b ≡ 0) }
-    ensures firsts { EachIndex firsts.new (λ b. slice_index firsts.new b ≡ first_in (length firsts.old) b (links_of links.now)) }
+    ensures firsts { EachIndex firsts.new (λ b. slice_index firsts.new b ≡ first_in (length firsts.old) b
+        (links_of links.now)) }
     ensures wrong { result ≡ next_fault (length firsts.old) (links_of links.now) }
 {
     let mut wrong = None;

@@ -1,8 +1,10 @@
 //! Faults among files that are each lawful.
 
-ghost use Rattle.std.specs.Prelude.{◌≡◌, ◌<◌, ◌^◌, IfOk, EachIndex, length, slice_index, slice_index_or, true, false, None, map as mapped};
+ghost use Rattle.std.specs.Prelude.{◌≡◌, ◌<◌, ◌^◌, IfOk, EachIndex, length, slice_index, slice_index_or, true, false};
+ghost use Rattle.std.specs.Prelude.{None, map as mapped};
 ghost use Rattle.acfg_views.specs.Reading.{package_of, flag_of};
-ghost use Rattle.acfg_images.specs.Faults.{or_else, bits_fault, container_fault, id_fault, count_fault, package_fault, index_fault, stray_id, indexed_fault, disagreement};
+ghost use Rattle.acfg_images.specs.Faults.{or_else, bits_fault, container_fault, id_fault, count_fault};
+ghost use Rattle.acfg_images.specs.Faults.{package_fault, index_fault, stray_id, indexed_fault, disagreement};
 ghost use Rattle.acfg_images.specs.Code.{HasStarts, kind_fault_by};
 ghost use Rattle.acfg_images.specs.Views.{opened_of};
 
@@ -48,7 +50,10 @@ pub(crate) fn find_container(views: &Views<'_>) -> Option<ImageFault>
 }
 
 /// The least number below the number of packages that isn't an id.
-pub(crate) fn find_id(alloc: Global, packages: &[PackageNode<'_>]) -> Result<Option<ImageFault>, AllocError>
+pub(crate) fn find_id(
+    alloc: Global,
+    packages: &[PackageNode<'_>],
+) -> Result<Option<ImageFault>, AllocError>
     requires { length packages.now < 2 ^ 32 }
     ensures { IfOk result (λ fault. fault ≡ id_fault (mapped package_of packages.now)) }
 {
@@ -94,7 +99,10 @@ pub(crate) fn find_package(count: u32, flags: &[FlagNode<'_>]) -> Option<ImageFa
 }
 
 /// Where each package's flags start, by id.
-pub(crate) fn starts_by_id(alloc: Global, packages: &[PackageNode<'_>]) -> Result<Vec<u32>, AllocError>
+pub(crate) fn starts_by_id(
+    alloc: Global,
+    packages: &[PackageNode<'_>],
+) -> Result<Vec<u32>, AllocError>
     ensures size { IfOk result (λ starts. length starts.items ≡ length packages.now) }
     ensures starts { IfOk result (λ starts. HasStarts starts.items (mapped package_of packages.now)) }
 {
@@ -156,7 +164,6 @@ fn kind_unmarked(
     }
 }
 
-
 /// The first fault of global indexes, or else of the flags' types.
 pub(crate) fn find_by_index(
     alloc: Global,
@@ -167,7 +174,8 @@ pub(crate) fn find_by_index(
     requires known { stray_id (length packages.now) (mapped flag_of flags.now) ≡ None }
     requires count { infos.now.count ≡ length flags.now }
     requires few { length flags.now < 2 ^ 32 }
-    ensures { IfOk result (λ fault. fault ≡ indexed_fault (mapped package_of packages.now) (mapped flag_of flags.now) infos.now) }
+    ensures { IfOk result (λ fault. fault ≡ indexed_fault (mapped package_of packages.now)
+        (mapped flag_of flags.now) infos.now) }
 {
     let starts = starts_by_id(alloc, packages)?;
     let indexes = global_indexes(alloc, &starts, flags)?;
@@ -187,7 +195,8 @@ pub(crate) fn find_disagreement(
     requires packages { length packages.now < 2 ^ 32 }
     requires flags { length flags.now ≡ views.now.flag_map.count }
     requires few { length flags.now < 2 ^ 32 }
-    ensures { IfOk result (λ fault. fault ≡ disagreement (opened_of views.now) (mapped package_of packages.now) (mapped flag_of flags.now)) }
+    ensures { IfOk result (λ fault. fault ≡ disagreement (opened_of views.now) (mapped package_of packages.now)
+        (mapped flag_of flags.now)) }
 {
     if let Some(fault) = find_container(views) {
         return Ok(Some(fault));
@@ -215,7 +224,8 @@ pub(crate) fn find_behind_maps(
     requires packages { length packages.now < 2 ^ 32 }
     requires flags { length flags.now ≡ views.now.flag_map.count }
     requires few { length flags.now < 2 ^ 32 }
-    ensures { IfOk result (λ fault. fault ≡ or_else (bits_fault purpose (opened_of views.now)) (disagreement (opened_of views.now) (mapped package_of packages.now) (mapped flag_of flags.now))) }
+    ensures { IfOk result (λ fault. fault ≡ or_else (bits_fault purpose (opened_of views.now)) (disagreement
+        (opened_of views.now) (mapped package_of packages.now) (mapped flag_of flags.now))) }
 {
     match find_bits(views, purpose) {
         Some(fault) => Ok(Some(fault)),

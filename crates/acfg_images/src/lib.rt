@@ -19,8 +19,8 @@ mod purpose;
 mod set;
 mod views;
 
-pub use checking::check;
 pub use checked::Checked;
+pub use checking::check;
 pub use digests::digest;
 pub use fault::{FileType, ImageFault, Point2};
 pub use purpose::Use;

@@ -36,8 +36,10 @@ pub(crate) fn read_packages<'a, L: Ledger>(
     steps: &mut Steps<L>,
 ) -> Result<Packages<'a>, ImageFault>
     requires { size ≡ length map.now.file }
-    ensures nodes { Tells (λ read. mapped package_of read.nodes.items) result (nodes_of package_map size (nodes_in package_at map.now)) }
-    ensures links { IfOk result (λ read. links_of read.links.items ≡ package_links map.now.first_node (mapped package_of read.nodes.items)) }
+    ensures nodes { Tells (λ read. mapped package_of read.nodes.items) result (nodes_of package_map size
+        (nodes_in package_at map.now)) }
+    ensures links { IfOk result (λ read. links_of read.links.items ≡ package_links map.now.first_node
+        (mapped package_of read.nodes.items)) }
     ensures buckets { IfOk result (λ read. HaveBuckets (bucket_count map.now) read.links.items) }
     ensures count { IfOk result (λ read. length read.nodes.items ≡ map.now.count) }
     ensures few { IfOk result (λ read. length read.nodes.items < 2 ^ 32) }
@@ -77,8 +79,10 @@ pub(crate) fn read_flags<'a, L: Ledger>(
     steps: &mut Steps<L>,
 ) -> Result<Flags<'a>, ImageFault>
     requires { size ≡ length map.now.file }
-    ensures nodes { Tells (λ read. mapped flag_of read.nodes.items) result (nodes_of flag_map size (nodes_in flag_at map.now)) }
-    ensures links { IfOk result (λ read. links_of read.links.items ≡ flag_links map.now.first_node (mapped flag_of read.nodes.items)) }
+    ensures nodes { Tells (λ read. mapped flag_of read.nodes.items) result (nodes_of flag_map size
+        (nodes_in flag_at map.now)) }
+    ensures links { IfOk result (λ read. links_of read.links.items ≡ flag_links map.now.first_node
+        (mapped flag_of read.nodes.items)) }
     ensures buckets { IfOk result (λ read. HaveBuckets (bucket_count map.now) read.links.items) }
     ensures count { IfOk result (λ read. length read.nodes.items ≡ map.now.count) }
     ensures few { IfOk result (λ read. length read.nodes.items < 2 ^ 32) }

@@ -18,10 +18,11 @@ loop-i-preserved-then-not-leads_on c =
     let len : length c.loop-i.firsts ≡ length c.args.firsts.now = search rules in
     let bucket : HasBucket (length c.loop-i.firsts) (get_or c.args.links.now i no_link) = subst (λ (n : ℕ). HasBucket n (get_or c.args.links.now i no_link)) (sym len) (c.requires.buckets i no_link lt) in
     let below : (get_or c.args.links.now i no_link).bucket < length c.loop-i.firsts = bucket-lt (length c.loop-i.firsts) (get_or c.args.links.now i no_link) (subst (λ (n : ℕ). 0 < n) (sym len) c.requires.some) bucket in
-    let new_len : length c.leads_on.new.firsts ≡ length c.loop-i.firsts = search rules in
-    (omega arith,
-     heads_more c.loop-i.firsts c.leads_on.new.firsts c.args.links.now i c.loop-i.i no_link i_is lt bucket below c.loop-i.invariant.1 c.leads_on.ensures.first,
-     rw new_len (wrong_here c.loop-i.firsts c.leads_on.new.firsts c.args.links.now i c.loop-i.i no_link i_is lt bucket below c.loop-i.invariant.1 c.leads_on.ensures.first _ c.leads_on.ensures.right c.if-not-leads_on.true))
+    let new_len : length c.leads_on.new.firsts ≡ length c.loop-i.firsts = search rules in (
+      omega arith,
+      heads_more c.loop-i.firsts c.leads_on.new.firsts c.args.links.now i c.loop-i.i no_link i_is lt bucket below c.loop-i.invariant.1 c.leads_on.ensures.first,
+      rw new_len (wrong_here c.loop-i.firsts c.leads_on.new.firsts c.args.links.now i c.loop-i.i no_link i_is lt bucket below c.loop-i.invariant.1 c.leads_on.ensures.first _ c.leads_on.ensures.right c.if-not-leads_on.true),
+    )
 
 pub loop-i-preserved : goal.loop-i-preserved
 loop-i-preserved c =
@@ -31,7 +32,8 @@ loop-i-preserved c =
     let len : length c.loop-i.firsts ≡ length c.args.firsts.now = search rules in
     let bucket : HasBucket (length c.loop-i.firsts) (get_or c.args.links.now i no_link) = subst (λ (n : ℕ). HasBucket n (get_or c.args.links.now i no_link)) (sym len) (c.requires.buckets i no_link lt) in
     let below : (get_or c.args.links.now i no_link).bucket < length c.loop-i.firsts = bucket-lt (length c.loop-i.firsts) (get_or c.args.links.now i no_link) (subst (λ (n : ℕ). 0 < n) (sym len) c.requires.some) bucket in
-    let new_len : length c.leads_on.new.firsts ≡ length c.loop-i.firsts = search rules in
-    (omega arith,
-     heads_more c.loop-i.firsts c.leads_on.new.firsts c.args.links.now i c.loop-i.i no_link i_is lt bucket below c.loop-i.invariant.1 c.leads_on.ensures.first,
-     rw new_len (wrong_right c.loop-i.firsts c.leads_on.new.firsts c.args.links.now i c.loop-i.i no_link i_is lt bucket below c.loop-i.invariant.1 c.leads_on.ensures.first _ _ c.leads_on.ensures.right c.if-not-leads_on.false c.loop-i.invariant.2))
+    let new_len : length c.leads_on.new.firsts ≡ length c.loop-i.firsts = search rules in (
+      omega arith,
+      heads_more c.loop-i.firsts c.leads_on.new.firsts c.args.links.now i c.loop-i.i no_link i_is lt bucket below c.loop-i.invariant.1 c.leads_on.ensures.first,
+      rw new_len (wrong_right c.loop-i.firsts c.leads_on.new.firsts c.args.links.now i c.loop-i.i no_link i_is lt bucket below c.loop-i.invariant.1 c.leads_on.ensures.first _ _ c.leads_on.ensures.right c.if-not-leads_on.false c.loop-i.invariant.2),
+    )

@@ -28,11 +28,11 @@ loop-preserved g c =
     let n = c.in-Ok.node in
     let link : NodeLink = record { at = c.loop.at; owner = Some n.package_id; name = n.name; bucket = c.flag_bucket.result; next = n.next } in
     let nodes_are : mapped flag_of c.push-in-Ok.new.self.items ≡ mapped flag_of c.loop.nodes.items ++ flag_of n ∷ [] =
-      ap (mapped flag_of) c.in_ok-push-in-Ok-2.ensures.items ∙ map_push flag_of c.loop.nodes.items n in
+    ap (mapped flag_of) c.in_ok-push-in-Ok-2.ensures.items ∙ map_push flag_of c.loop.nodes.items n in
     let links_are : links_of c.push.new.self.items ≡ links_of c.loop.links.items ++ link_of link ∷ [] =
-      ap links_of c.in_ok-push-in-Ok.ensures.items ∙ map_push link_of c.loop.links.items link in
+    ap links_of c.in_ok-push-in-Ok.ensures.items ∙ map_push link_of c.loop.links.items link in
     let so = so_far_next flag_at flag_node IsFlagNode flag_node_key (λ n. n.next) flag_exact c.args.map.now c.loop.counter (mapped flag_of c.loop.nodes.items) (links_of c.loop.links.items) c.loop.at (flag_of n) n.end (link_of link)
-      c.first_node-at.ensures.open.bytes (omega (arith, c.loop-test.true, c.count-count.ensures)) c.loop.invariant.0 c.in-Ok.ensures.node refl in
+    c.first_node-at.ensures.open.bytes (omega (arith, c.loop-test.true, c.count-count.ensures)) c.loop.invariant.0 c.in-Ok.ensures.node refl in
     let hashed_so = c.flag_bucket.ensures.value in
     let name_is = c.as_bytes.ensures.value in
     (rw (nodes_are, links_are) so, rw c.in_ok-push-in-Ok.ensures.items (All-push (HasBucket c.buckets-buckets.result) c.loop.links.items link c.loop.invariant.1 (rw name_is at hashed_so)))

@@ -28,11 +28,11 @@ loop-preserved g c =
     let n = c.in-Ok.node in
     let link : NodeLink = record { at = c.loop.at; owner = None; name = n.name; bucket = c.bucket.result; next = n.next } in
     let nodes_are : mapped package_of c.push-in-Ok.new.self.items ≡ mapped package_of c.loop.nodes.items ++ package_of n ∷ [] =
-      ap (mapped package_of) c.in_ok-push-in-Ok-2.ensures.items ∙ map_push package_of c.loop.nodes.items n in
+    ap (mapped package_of) c.in_ok-push-in-Ok-2.ensures.items ∙ map_push package_of c.loop.nodes.items n in
     let links_are : links_of c.push.new.self.items ≡ links_of c.loop.links.items ++ link_of link ∷ [] =
-      ap links_of c.in_ok-push-in-Ok.ensures.items ∙ map_push link_of c.loop.links.items link in
+    ap links_of c.in_ok-push-in-Ok.ensures.items ∙ map_push link_of c.loop.links.items link in
     let so = so_far_next package_at package_node IsPackageNode package_key (λ n. n.next) package_exact c.args.map.now c.loop.counter (mapped package_of c.loop.nodes.items) (links_of c.loop.links.items) c.loop.at (package_of n) n.end (link_of link)
-      c.first_node-at.ensures.open.bytes (omega (arith, c.loop-test.true, c.count-count.ensures)) c.loop.invariant.0 c.in-Ok.ensures.node refl in
+    c.first_node-at.ensures.open.bytes (omega (arith, c.loop-test.true, c.count-count.ensures)) c.loop.invariant.0 c.in-Ok.ensures.node refl in
     let hashed_so = c.bucket.ensures.value in
     let name_is = c.as_bytes.ensures.value in
     (rw (nodes_are, links_are) so, rw c.in_ok-push-in-Ok.ensures.items (All-push (HasBucket c.buckets-buckets.result) c.loop.links.items link c.loop.invariant.1 (rw name_is at hashed_so)))
