@@ -3,3 +3,6 @@ pub mod Words
 pub mod Links
 pub mod Set
 pub mod Image
+pub mod Faults
+pub mod Code
+pub mod Views

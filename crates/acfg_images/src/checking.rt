@@ -1,0 +1,94 @@
+//! The check of a whole set.
+
+ghost use Rattle.std.specs.Prelude.{◌≡◌, Ok};
+ghost use Rattle.acfg_images.specs.Faults.{checked, opened_set, too_large};
+ghost use Rattle.acfg_images.specs.Code.{Tells};
+ghost use Rattle.acfg_images.specs.Views.{Answers, opened_of};
+
+use crate::checked::Checked;
+use crate::disagree::find_behind_maps;
+use crate::fault::ImageFault;
+use crate::maps::{check_flags, check_packages};
+use crate::purpose::Use;
+use crate::set::ImageSet;
+use crate::views::{Views, open_views};
+use acfg_views::Steps;
+use std::alloc::Global;
+use std::marker::Brand;
+use std::sync::ledger::{Blank, Ledger};
+
+/// The most bytes that the four files have together.
+const MOST_BYTES: u64 = 4_194_304;
+
+/// Checks a set for a use.
+///
+/// # Errors
+///
+/// The first fault in the order of `ImageFault`, with its file and numbers.
+pub fn check(alloc: Global, set: &ImageSet, purpose: Use) -> Result<Checked<'_>, ImageFault>
+    ensures { Tells (λ it. it) result (checked purpose set.now) }
+{
+    check_counted::<Brand>(alloc, set, purpose, Blank::new(1))
+}
+
+fn check_counted<L: Ledger>(
+    alloc: Global,
+    set: &ImageSet,
+    purpose: Use,
+    blank: Blank,
+) -> Result<Checked<'_>, ImageFault>
+    requires name { blank.name ≡ L.name }
+    requires parts { blank.parts ≡ L.parts }
+    requires one { L.parts ≡ 1 }
+    ensures { Tells (λ it. it) result (checked purpose set.now) }
+{
+    let views = open_set(set)?;
+    let mut steps = Steps::<L>::new(blank);
+    check_views(alloc, set, views, purpose, &mut steps)
+}
+
+// Opens files that aren't too large together.
+#[tactic(auto, unfolding(crate::specs::Faults::opened_set))]
+fn open_set(set: &ImageSet) -> Result<Views<'_>, ImageFault>
+    ensures { Answers opened_of result (opened_set set.now) }
+{
+    match find_too_large(set) {
+        Some(fault) => Err(fault),
+        None => open_views(set),
+    }
+}
+
+// Checks what stands behind the headers.
+fn check_views<'a, L: Ledger>(
+    alloc: Global,
+    set: &'a ImageSet,
+    views: Views<'a>,
+    purpose: Use,
+    steps: &mut Steps<L>,
+) -> Result<Checked<'a>, ImageFault>
+    requires { opened_set set.now ≡ Ok (opened_of views) }
+    ensures { Tells (λ it. it) result (checked purpose set.now) }
+{
+    let size = set.package_map().len() as u32;
+    let packages = check_packages(alloc, &views.package_map, size, steps)?;
+    let size = set.flag_map().len() as u32;
+    let flags = check_flags(alloc, &views.flag_map, size, steps)?;
+    match find_behind_maps(alloc, &views, purpose, &packages.nodes, &flags.nodes)? {
+        Some(fault) => Err(fault),
+        None => Ok(Checked::new(views)),
+    }
+}
+
+// Whether the files have too many bytes together.
+fn find_too_large(set: &ImageSet) -> Option<ImageFault>
+    ensures { result ≡ too_large set.now }
+{
+    let bytes = (set.package_map().len() as u64)
+        .saturating_add(set.flag_map().len() as u64)
+        .saturating_add(set.flag_val().len() as u64)
+        .saturating_add(set.flag_info().len() as u64);
+    if bytes > MOST_BYTES {
+        return Some(ImageFault::TooLarge(bytes));
+    }
+    None
+}
