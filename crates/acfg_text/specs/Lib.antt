@@ -1,4 +1,11 @@
 pub mod Containers
+pub mod Escapes
 pub mod Form
+pub mod Grammar
+pub mod Lexes
 pub mod Plain
 pub mod Reader
+pub mod Spells
+pub mod Terminals
+pub mod TextFaults
+pub mod Trees

@@ -1,12 +1,21 @@
 //! Texts as teams write them, read exactly.
 #![tactic(auto)]
 
+mod bytes;
+mod classes;
 mod containers;
+mod fault;
 mod form;
 mod plain;
+mod quoted;
 mod reader;
-mod text;
+mod tokens;
+mod tree;
 
+pub use acfg_base::Text;
+pub use classes::{Bracket, Class};
 pub use containers::read_container;
+pub use fault::{OutOfMemory, TextFault, TextWhat};
 pub use plain::{Plain, PlainFault, PlainFlag, PlainWhat, one_reading, read_plain};
-pub use text::Text;
+pub use tokens::{Token, TokenKind};
+pub use tree::{Item, Tree, Value};

@@ -6,8 +6,7 @@ ghost use Rattle.acfg_text.specs.Plain.{IfAt, Reads, Refuses, Holds, FirstFails,
 ghost use Rattle.acfg_text.specs.Reader.{message_of, declarations_of};
 
 use crate::reader::{Declarations, Message, read_form};
-use crate::text::Text;
-use acfg_base::{is_container, is_name, is_package};
+use acfg_base::{Text, is_container, is_name, is_package};
 use sqlite_items::Items;
 use std::alloc::{AllocError, AllocFailed, Global};
 use std::collections::BTreeSet;
