@@ -6,3 +6,7 @@ pub mod Refusals
 pub mod Tests
 pub mod Unique
 pub mod Seen
+mod Leading
+mod Resting
+mod Viable
+mod Stopping

@@ -3,6 +3,7 @@ pub mod Escapes
 pub mod Form
 pub mod Grammar
 pub mod Lexes
+pub mod Machine
 pub mod Plain
 pub mod Reader
 pub mod Spells
