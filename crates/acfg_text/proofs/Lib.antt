@@ -10,3 +10,4 @@ mod Leading
 mod Resting
 mod Viable
 mod Stopping
+mod Quotes

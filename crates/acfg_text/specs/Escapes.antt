@@ -52,7 +52,7 @@ unicode n found = if (length found == n) && is_scalar (number 16 found) then Som
 
 abbrev pub escape_as : Escape → ℕ → List ℕ → Escaped
 escape_as (Byte value) b text = Some (1, value ∷ [])
-escape_as Octal b text = octal (digits is_octal 3 (b ∷ text))
+escape_as Octal b text = octal (b ∷ digits is_octal 2 text)
 escape_as Hexadecimal b text = hexadecimal (digits is_hexadecimal 2 text)
 escape_as (Scalar n) b text = unicode n (digits is_hexadecimal n text)
 escape_as Unknown b text = None

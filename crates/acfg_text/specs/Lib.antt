@@ -6,6 +6,7 @@ pub mod Lexes
 pub mod Machine
 pub mod Plain
 pub mod Reader
+pub mod Scanning
 pub mod Spells
 pub mod Terminals
 pub mod TextFaults

@@ -25,3 +25,14 @@ pub enum Escape {
     Scalar(usize),
     Unknown,
 }
+
+/// Where a quoted text ends, in bytes behind its opening quote.
+#[derive(Clone, Copy, Debug, PartialEq, Eq)]
+pub enum Scan {
+    /// Behind its closing quote.
+    Closed(usize),
+    /// At a backslash that begins no escape.
+    Bad(usize),
+    /// A line feed or the end comes first.
+    Open,
+}
