@@ -11,3 +11,4 @@ mod Resting
 mod Viable
 mod Stopping
 mod Quotes
+mod Lexing
