@@ -12,3 +12,4 @@ mod Viable
 mod Stopping
 mod Quotes
 mod Lexing
+mod Slices

@@ -1,6 +1,6 @@
 -- Tokens: the Protocol Buffers text format, "Lexical elements". A text is blanks, comments and tokens in order, none of which could be longer.
-use Rattle.std.specs.Prelude.{◌≡◌, ℕ, ◌+◌, ◌<◌, ◌==◌, true, false, drop, if◌then◌else◌, ◌&&◌, ◌||◌, nat_le, Bool, List, [], ◌∷◌, ◌++◌, length, Option, Some, None, codes}
-use Rattle.std.specs.List.{list_any, list_all}
+use Rattle.std.specs.Prelude.{◌≡◌, ℕ, ◌+◌, ◌<◌, ◌==◌, true, false, drop, if◌then◌else◌, ◌&&◌, ◌||◌, nat_le, Bool, List, [], ◌∷◌, ◌++◌, length, Option, Some, None, codes, slice_range}
+use Rattle.std.specs.List.{list_any, list_all, AllByRecursion}
 use Rattle.acfg_text.specs.declared.tokens.TokenKind.{TokenKind}
 use Rattle.acfg_text.specs.declared.tokens.TokenKind.TheVariants.{Word, Number, Quoted, Symbol}
 use Rattle.acfg_text.specs.declared.bytes.Lead.{Lead}
@@ -113,3 +113,7 @@ pub record LexFault (text : List ℕ) (place : ℕ) (what : TextWhat) : Type 0 w
   pub rest : List ℕ
   pub before : Lexed 0 text found at rest
   pub breaks : BreaksAt at rest place what
+
+-- each token is the slice of the text at its place
+abbrev pub AreSlices : List ℕ → List Lexeme → Type 0
+AreSlices text found = AllByRecursion (λ l. slice_range text l.place (l.place + length l.text) ≡ l.text) found
