@@ -5,8 +5,8 @@ use Rattle.std.specs.List.{list_any, list_all, prefix_len}
 use Rattle.std.proofs.lemmas.List.{drop-drop, take-append-drop, length-take, drop-append-le}
 use Rattle.std.proofs.lemmas.List.Sums.{prefix_len-le-length}
 use Rattle.std.proofs.Math.Seq.{drop-append_seam, take-append_seam}
-use Rattle.acfg_text.specs.declared.tokens.TokenKind.{TokenKind}
-use Rattle.acfg_text.specs.declared.tokens.TokenKind.TheVariants.{Word, Number, Quoted, Symbol}
+use Rattle.acfg_text.specs.declared.token.TokenKind.{TokenKind}
+use Rattle.acfg_text.specs.declared.token.TokenKind.TheVariants.{Word, Number, Quoted, Symbol}
 use Rattle.acfg_text.specs.declared.bytes.Lead.{Lead}
 use Rattle.acfg_text.specs.declared.bytes.Lead.TheVariants.{White, Comment, Token, Nothing}
 use Rattle.acfg_text.specs.declared.quoted.Scan.{Scan}

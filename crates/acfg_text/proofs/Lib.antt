@@ -11,5 +11,7 @@ mod Resting
 mod Viable
 mod Stopping
 mod Quotes
+pub mod Scans
 mod Lexing
+mod Numbers
 mod Slices

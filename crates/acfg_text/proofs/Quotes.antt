@@ -52,30 +52,30 @@ count_of : {m n : ℕ} {x y : List ℕ} → pair m x ≡ pair n y → m ≡ n
 count_of e = ap (λ (z : ℕ × List ℕ). z.0) e
 
 -- an escape is in the text, and has a byte at least
-record Fits (n : ℕ) (text : List ℕ) : Type 0 where
-  some : 0 < n
-  inside : n ≤ length text
+pub record Fits (n : ℕ) (text : List ℕ) : Type 0 where
+  pub some : 0 < n
+  pub inside : n ≤ length text
 
-octal_count : (found : List ℕ) (n : ℕ) (v : List ℕ) → octal found ≡ Some (n, v) → length found ≡ n
-octal_count found n v e = count_of (cond_some (nat_le (number 8 found) 255) (pair (length found) (number 8 found ∷ [])) (pair n v) e)
+octal_count : (first : ℕ) (found : List ℕ) (n : ℕ) (v : List ℕ) → octal first found ≡ Some (n, v) → length found + 1 ≡ n
+octal_count first found n v e = count_of (cond_some (nat_le (number 8 first found) 255) (pair (length found + 1) (number 8 first found ∷ [])) (pair n v) e)
 
 hexadecimal_count : (found : List ℕ) (n : ℕ) (v : List ℕ) → hexadecimal found ≡ Some (n, v) → length found + 1 ≡ n
-hexadecimal_count found n v e = count_of (cond_none (length found == 0) (pair (length found + 1) (number 16 found ∷ [])) (pair n v) e)
+hexadecimal_count found n v e = count_of (cond_none (length found == 0) (pair (length found + 1) (number 16 0 found ∷ [])) (pair n v) e)
 
 unicode_count : (m : ℕ) (found : List ℕ) (n : ℕ) (v : List ℕ) → unicode m found ≡ Some (n, v) → (m + 1 ≡ n) × (length found ≡ m)
-unicode_count m found n v e = go (length found == m) (is_scalar (number 16 found)) refl e
+unicode_count m found n v e = go (length found == m) (is_scalar (number 16 0 found)) refl e
   where
-    go : (q r : Bool) → (length found == m) ≡ q → cond (q && r) (Some (pair (m + 1) (encode_utf8 (number 16 found)))) None ≡ Some (pair n v) → (m + 1 ≡ n) × (length found ≡ m)
+    go : (q r : Bool) → (length found == m) ≡ q → cond (q && r) (Some (pair (m + 1) (encode_utf8 (number 16 0 found)))) None ≡ Some (pair n v) → (m + 1 ≡ n) × (length found ≡ m)
     go false r is e = absurd cc
-    go true r is e = (count_of (cond_some r (pair (m + 1) (encode_utf8 (number 16 found))) (pair n v) e), grind (arith, nat_tests))
+    go true r is e = (count_of (cond_some r (pair (m + 1) (encode_utf8 (number 16 0 found))) (pair n v) e), grind (arith, nat_tests))
 
 fits_as : (k : Escape) (b : ℕ) (text : List ℕ) (n : ℕ) (v : List ℕ) → escape_as k b text ≡ Some (n, v) → Fits n (b ∷ text)
 fits_as (Byte value) b text n v e = let is : 1 ≡ n = count_of (some_same (pair 1 (value ∷ [])) (pair n v) e) in record { some = omega arith; inside = omega arith }
   where
     some_same : {A : Type 0} (x y : A) → Some x ≡ Some y → x ≡ y
     some_same x y e = cc
-fits_as Octal b text n v e =
-    let is : suc (length (digits is_octal 2 text)) ≡ n = octal_count (b ∷ digits is_octal 2 text) n v e in
+fits_as (Octal first) b text n v e =
+    let is : length (digits is_octal 2 text) + 1 ≡ n = octal_count first (digits is_octal 2 text) n v e in
     record { some = omega arith; inside = omega (arith, digits_len is_octal 2 text) }
 fits_as Hexadecimal b text n v e =
     let is : length (digits is_hexadecimal 2 text) + 1 ≡ n = hexadecimal_count (digits is_hexadecimal 2 text) n v e in
@@ -85,16 +85,16 @@ fits_as (Scalar m) b text n v e =
     record { some = omega (arith, is.0); inside = omega (arith, is.0, is.1, digits_len is_hexadecimal m text) }
 fits_as Unknown b text n v e = absurd cc
 
-escape_fits : (text : List ℕ) (n : ℕ) (v : List ℕ) → escape text ≡ Some (n, v) → Fits n text
+pub escape_fits : (text : List ℕ) (n : ℕ) (v : List ℕ) → escape text ≡ Some (n, v) → Fits n text
 unfolding escape
 escape_fits [] n v e = absurd cc
 escape_fits (b ∷ text) n v e = fits_as (escape_by b) b text n v e
 
 local_as : (k : Escape) (d : ℕ) (a : List ℕ) (b : ℕ) (x y v : List ℕ) → escape_as k d (a ++ b ∷ x) ≡ Some (suc (length a), v) → escape_as k d (a ++ b ∷ y) ≡ Some (suc (length a), v)
 local_as (Byte value) d a b x y v e = e
-local_as Octal d a b x y v e =
-    let count : suc (length (digits is_octal 2 (a ++ b ∷ x))) ≡ suc (length a) = octal_count (d ∷ digits is_octal 2 (a ++ b ∷ x)) (suc (length a)) v e in
-    ap (λ l. octal (d ∷ l)) (digits_local is_octal 2 a b x y (omega arith)) ∙ e
+local_as (Octal first) d a b x y v e =
+    let count : length (digits is_octal 2 (a ++ b ∷ x)) + 1 ≡ suc (length a) = octal_count first (digits is_octal 2 (a ++ b ∷ x)) (suc (length a)) v e in
+    ap (octal first) (digits_local is_octal 2 a b x y (omega arith)) ∙ e
 local_as Hexadecimal d a b x y v e =
     let count : length (digits is_hexadecimal 2 (a ++ b ∷ x)) + 1 ≡ suc (length a) = hexadecimal_count (digits is_hexadecimal 2 (a ++ b ∷ x)) (suc (length a)) v e in
     ap hexadecimal (digits_local is_hexadecimal 2 a b x y (omega arith)) ∙ e

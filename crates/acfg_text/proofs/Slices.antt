@@ -4,7 +4,7 @@ use Rattle.std.specs.Prelude.{◌≤◌, slice_range}
 use Rattle.std.specs.List.{AllByRecursion}
 use Rattle.std.proofs.lemmas.List.{drop-drop}
 use Rattle.std.proofs.Math.Seq.{drop-append_seam, take-append_seam}
-use Rattle.acfg_text.specs.declared.tokens.TokenKind.{TokenKind}
+use Rattle.acfg_text.specs.declared.token.TokenKind.{TokenKind}
 use Rattle.acfg_text.specs.Terminals.{Lexeme, lexeme, terminal_of}
 use Rattle.acfg_text.specs.TextFaults.{Rising}
 use Rattle.acfg_text.specs.Lexes.{IsToken, Lexed, here, blank, comment, token, Lexes, AreSlices}

@@ -21,26 +21,27 @@ digits is_digit zero text = []
 digits is_digit (suc n) [] = []
 digits is_digit (suc n) (b ∷ text) = if is_digit b then b ∷ digits is_digit n text else []
 
-abbrev pub number : ℕ → List ℕ → ℕ
-number base text = fold (λ n b. n * base + digit_value b) 0 text
+-- the number that digits of a base spell behind one that came before them
+abbrev pub number : ℕ → ℕ → List ℕ → ℕ
+number base start text = fold (λ n b. n * base + digit_value b) start text
 
 -- the escapes, by the byte behind the backslash
 unfoldable pub escape_by : ℕ → Escape
 escape_by b = if b == 97 then Byte 7 else (if b == 98 then Byte 8 else (if b == 116 then Byte 9 else (if b == 110 then Byte 10 else (if b == 118 then Byte 11 else (if b == 102 then Byte 12 else (if b == 114 then Byte 13 else
     (if b == 63 then Byte 63 else (if b == 92 then Byte 92 else (if b == 39 then Byte 39 else (if b == 34 then Byte 34 else
-    (if is_octal b then Octal else (if b == 120 then Hexadecimal else (if b == 88 then Hexadecimal else (if b == 117 then Scalar 4 else (if b == 85 then Scalar 8 else Unknown)))))))))))))))
+    (if is_octal b then Octal (b - 48) else (if b == 120 then Hexadecimal else (if b == 88 then Hexadecimal else (if b == 117 then Scalar 4 else (if b == 85 then Scalar 8 else Unknown)))))))))))))))
 
 -- what stands behind a backslash: how many bytes the escape has, and the bytes that it stands for
 abbrev pub Escaped : Type 0
 Escaped = Option (ℕ × List ℕ)
 
--- one to three octal digits of a value up to 255
-abbrev pub octal : List ℕ → Escaped
-octal found = if nat_le (number 8 found) 255 then Some (length found, number 8 found ∷ []) else None
+-- an octal digit of this value and up to two more, of a value up to 255
+abbrev pub octal : ℕ → List ℕ → Escaped
+octal first found = if nat_le (number 8 first found) 255 then Some (length found + 1, number 8 first found ∷ []) else None
 
 -- one or two hexadecimal digits behind `x`
 abbrev pub hexadecimal : List ℕ → Escaped
-hexadecimal found = if length found == 0 then None else Some (length found + 1, number 16 found ∷ [])
+hexadecimal found = if length found == 0 then None else Some (length found + 1, number 16 0 found ∷ [])
 
 -- a Unicode scalar value
 unfoldable pub is_scalar : ℕ → Bool
@@ -48,11 +49,11 @@ is_scalar n = nat_lt n 0xD800 || (nat_le 0xE000 n && nat_le n 0x10FFFF)
 
 -- so many hexadecimal digits behind `u` or `U`, which name a Unicode scalar value: its UTF-8 bytes
 abbrev pub unicode : ℕ → List ℕ → Escaped
-unicode n found = if (length found == n) && is_scalar (number 16 found) then Some (n + 1, encode_utf8 (number 16 found)) else None
+unicode n found = if (length found == n) && is_scalar (number 16 0 found) then Some (n + 1, encode_utf8 (number 16 0 found)) else None
 
 abbrev pub escape_as : Escape → ℕ → List ℕ → Escaped
 escape_as (Byte value) b text = Some (1, value ∷ [])
-escape_as Octal b text = octal (b ∷ digits is_octal 2 text)
+escape_as (Octal first) b text = octal first (digits is_octal 2 text)
 escape_as Hexadecimal b text = hexadecimal (digits is_hexadecimal 2 text)
 escape_as (Scalar n) b text = unicode n (digits is_hexadecimal n text)
 escape_as Unknown b text = None

@@ -4,8 +4,10 @@ pub mod Form
 pub mod Grammar
 pub mod Lexes
 pub mod Machine
+pub mod Meanings
 pub mod Plain
 pub mod Reader
+pub mod Reading
 pub mod Scanning
 pub mod Spells
 pub mod Terminals

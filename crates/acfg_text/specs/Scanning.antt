@@ -1,8 +1,8 @@
 -- Words of the lexer's private contracts and of proofs alone: tokens as a function of the text.
-use Rattle.std.specs.Prelude.{ℕ, zero, suc, ◌+◌, Bool, true, false, not, List, [], ◌∷◌, ◌++◌, Option, Some, None, Result, Ok, Err, take}
+use Rattle.std.specs.Prelude.{ℕ, zero, suc, ◌+◌, ◌<◌, ◌≤◌, Bool, true, false, not, List, [], ◌∷◌, ◌++◌, Option, Some, None, Result, Ok, Err, take}
 use Rattle.std.specs.List.{prefix_len}
-use Rattle.acfg_text.specs.declared.tokens.TokenKind.{TokenKind}
-use Rattle.acfg_text.specs.declared.tokens.TokenKind.TheVariants.{Word, Number, Quoted, Symbol}
+use Rattle.acfg_text.specs.declared.token.TokenKind.{TokenKind}
+use Rattle.acfg_text.specs.declared.token.TokenKind.TheVariants.{Word, Number, Quoted, Symbol}
 use Rattle.acfg_text.specs.declared.bytes.Lead.{Lead}
 use Rattle.acfg_text.specs.declared.bytes.Lead.TheVariants.{White, Comment, Token, Nothing}
 use Rattle.acfg_text.specs.declared.quoted.Within.{Within}
@@ -36,6 +36,12 @@ unfoldable pub scan : ℕ → ℕ → ℕ → List ℕ → Scan
 scan quote skipped at [] = Open
 scan quote (suc skipped) at (b ∷ text) = scan quote skipped (at + 1) text
 scan quote zero at (b ∷ text) = scan_by (within quote b) (escape text) at text (λ n. scan quote n (at + 1) text)
+
+-- the scan ends within so many bytes
+abbrev pub IsWithin : ℕ → Scan → Type 0
+IsWithin n (Closed end) = (0 < end) × (end ≤ n)
+IsWithin n (Bad at) = at < n
+IsWithin n Open = Unit {0}
 
 abbrev pub quoted_len : ℕ → Scan → Result ℕ Fault
 quoted_len at (Closed n) = Ok n

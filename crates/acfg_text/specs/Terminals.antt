@@ -1,8 +1,8 @@
 -- Tokens, and the terminals of the grammar that they are.
 use Rattle.std.specs.Prelude.{ℕ, ◌==◌, if◌then◌else◌, List, slice_index}
-use Rattle.acfg_text.specs.declared.tokens.TokenKind.{TokenKind}
-use Rattle.acfg_text.specs.declared.tokens.TokenKind.TheVariants as kinds
-use Rattle.acfg_text.specs.declared.tokens.Token.{Token}
+use Rattle.acfg_text.specs.declared.token.TokenKind.{TokenKind}
+use Rattle.acfg_text.specs.declared.token.TokenKind.TheVariants as kinds
+use Rattle.acfg_text.specs.declared.token.Token.{Token}
 use Rattle.acfg_text.specs.declared.classes.Bracket.TheVariants.{Curly, Angle}
 use Rattle.acfg_text.specs.declared.classes.Class.{Class}
 use Rattle.acfg_text.specs.declared.classes.Class.TheVariants as classes
