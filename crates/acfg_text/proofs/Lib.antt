@@ -15,3 +15,5 @@ pub mod Scans
 mod Lexing
 mod Numbers
 mod Slices
+mod Steps
+mod Failures

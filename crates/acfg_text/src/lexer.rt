@@ -24,7 +24,8 @@ pub fn tokens<'a>(alloc: Global, source: &'a [u8]) -> Result<Vec<Token<'a>>, Tex
     ensures rising { IfOk result (λ found. Rising 0 (map terminal_of (map lexeme_of found.items)) (length source.now)) }
     ensures err { IfErr result (λ failure. IfAt failure (LexFault source.now)) }
 {
-    read_tokens(alloc, source)
+    let found = read_tokens(alloc, source)?;
+    Ok(found)
 }
 
 fn read_tokens<'a>(alloc: Global, source: &'a [u8]) -> Result<Vec<Token<'a>>, TextFault>
