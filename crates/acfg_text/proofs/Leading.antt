@@ -78,12 +78,12 @@ same_itself Angle = refl
 
 -- behind a quoted value an unquoted token does what it does behind the settled value
 pub settles : (strict : Bool) (h : Head) (slot : Slot) (place : ℕ) (bytes : List ℕ) (top : List Item) (frames : List Frame) (t : Terminal) → is_quoted t.class ≡ false → Accepts strict bytes
-  → step strict (st (in_text h slot place bytes) top frames) t ≡ step strict (settle h slot (v.Text place bytes) top frames) t
+    → step strict (st (in_text h slot place bytes) top frames) t ≡ step strict (settle h slot (v.Text place bytes) top frames) t
 settles strict h single place bytes top frames t unq acc = rw (unq, acc) refl
 settles strict h (among colon values) place bytes top frames t unq acc = rw (unq, acc) refl
 
 pub open_step : (strict : Bool) {mode : Mode} {h : Head} {slot : Slot} {colon : Bool} (top : List Item) (frames : List Frame) (bracket : Bracket) (p : ℕ) (t : List ℕ) → Waits mode h slot colon → (strict && nat_le 32 (length frames)) ≡ false
-  → step strict (st mode top frames) (terminal (c.Open bracket) p t) ≡ Ok (opened h slot bracket p top frames)
+    → step strict (st mode top frames) (terminal (c.Open bracket) p t) ≡ Ok (opened h slot bracket p top frames)
 open_step strict top frames bracket p t waits_name e = rw e refl
 open_step strict top frames bracket p t waits_colon e = rw e refl
 open_step strict top frames bracket p t waits_list e = rw e refl
@@ -91,19 +91,19 @@ open_step strict top frames bracket p t waits_item e = rw e refl
 
 -- quoted tokens join to a text
 text_run : (strict : Bool) (end : ℕ) {bytes : List ℕ} {ts rest : List Terminal} (h : Head) (slot : Slot) (place : ℕ) (old : List ℕ) (top : List Item) (frames : List Frame) → Texts bytes ts rest
-  → run strict end ts (st (in_text h slot place old) top frames) ≡ run strict end rest (st (in_text h slot place (old ++ bytes)) top frames)
+    → run strict end ts (st (in_text h slot place old) top frames) ≡ run strict end rest (st (in_text h slot place (old ++ bytes)) top frames)
 unfolding run
 text_run strict end h slot place old top frames last_text = refl
 text_run strict end h slot place old top frames (more_texts t bytes {rest = rest} texts) =
     text_run strict end h slot place (old ++ spelled t) top frames texts ∙ ap (λ b. run strict end rest (st (in_text h slot place b) top frames)) (append_assoc old (spelled t) bytes)
 
 pub first_text : (strict : Bool) (end : ℕ) {bytes : List ℕ} {p : ℕ} {t : List ℕ} {ts rest : List Terminal} (h : Head) (slot : Slot) (place : ℕ) (top : List Item) (frames : List Frame) → Texts bytes (terminal c.Quoted p t ∷ ts) rest
-  → run strict end ts (st (in_text h slot place (spelled t)) top frames) ≡ run strict end rest (st (in_text h slot place bytes) top frames)
+    → run strict end ts (st (in_text h slot place (spelled t)) top frames) ≡ run strict end rest (st (in_text h slot place bytes) top frames)
 first_text strict end h slot place top frames last_text = refl
 first_text strict end h slot place top frames (more_texts t bytes texts) = text_run strict end h slot place (spelled t) top frames texts
 
-settled_run : (strict : Bool) (end : ℕ) (h : Head) (slot : Slot) (place : ℕ) (bytes : List ℕ) (top : List Item) (frames : List Frame) (rest : List Terminal) → Unquoted rest → Accepts strict bytes
-  → run strict end rest (st (in_text h slot place bytes) top frames) ≡ run strict end rest (settle h slot (v.Text place bytes) top frames)
+pub settled_run : (strict : Bool) (end : ℕ) (h : Head) (slot : Slot) (place : ℕ) (bytes : List ℕ) (top : List Item) (frames : List Frame) (rest : List Terminal) → Unquoted rest → Accepts strict bytes
+    → run strict end rest (st (in_text h slot place bytes) top frames) ≡ run strict end rest (settle h slot (v.Text place bytes) top frames)
 unfolding run
 settled_run strict end h single place bytes top [] [] unq acc = rw acc refl
 settled_run strict end h single place bytes top (f ∷ frames) [] unq acc = rw acc refl
@@ -111,12 +111,12 @@ settled_run strict end h (among colon values) place bytes top frames [] unq acc 
 settled_run strict end h slot place bytes top frames (t ∷ ts) unq acc = ap (λ s. carry s (λ r. run strict end ts r)) (settles strict h slot place bytes top frames t unq acc)
 
 text_value : (strict : Bool) (end : ℕ) (room : Room) {bytes : List ℕ} {p : ℕ} {t : List ℕ} {ts rest : List Terminal} (h : Head) (slot : Slot) (top : List Item) (frames : List Frame) → Texts bytes (terminal c.Quoted p t ∷ ts) rest → Takes room bytes → Fits strict room frames → Unquoted rest
-  → run strict end ts (st (in_text h slot p (spelled t)) top frames) ≡ run strict end rest (settle h slot (v.Text p bytes) top frames)
+    → run strict end ts (st (in_text h slot p (spelled t)) top frames) ≡ run strict end rest (settle h slot (v.Text p bytes) top frames)
 text_value strict end room {bytes} {p} {t} {ts} {rest} h slot top frames texts takes fits unq =
     first_text strict end h slot p top frames texts ∙ settled_run strict end h slot p bytes top frames rest unq (accepts strict room frames bytes fits takes)
 
 pub scalar_run : (strict : Bool) (end : ℕ) {room : Room} {value : Value} {ts rest : List Terminal} {mode : Mode} {h : Head} {slot : Slot} (top : List Item) (frames : List Frame) → Scalar room value ts rest → Waits mode h slot true → Fits strict room frames → Unquoted rest
-  → run strict end ts (st mode top frames) ≡ run strict end rest (settle h slot value top frames)
+    → run strict end ts (st mode top frames) ≡ run strict end rest (settle h slot value top frames)
 unfolding run
 scalar_run strict end top frames word_is waits_colon fits unq = refl
 scalar_run strict end top frames word_is waits_list fits unq = refl
@@ -158,21 +158,22 @@ fields_front (more_fields (field_is held ends) _) f = refl
 
 mutual
   unfolding run
+
   pub fields_run : (strict : Bool) (end : ℕ) {room : Room} {items : List Item} {ts rest : List Terminal} (top : List Item) (frames : List Frame) → Fields room items ts rest → Fits strict room frames → Follows rest
-    → run strict end ts (st at_field top frames) ≡ run strict end rest (st at_field (top ++ items) frames)
+      → run strict end ts (st at_field top frames) ≡ run strict end rest (st at_field (top ++ items) frames)
   fields_run strict end {rest = rest} top frames no_fields fits f = ap (λ i. run strict end rest (st at_field i frames)) (sym (append-nil top))
   fields_run strict end {rest = rest} top frames (more_fields {i = i} {items = items} field others) fits f =
       field_run strict end top frames field fits (fields_front others f) ∙ fields_run strict end (top ++ i ∷ []) frames others fits f
       ∙ ap (λ l. run strict end rest (st at_field l frames)) (append_assoc top (i ∷ []) items)
 
   pub field_run : (strict : Bool) (end : ℕ) {room : Room} {i : Item} {ts rest : List Terminal} (top : List Item) (frames : List Frame) → Field room i ts rest → Fits strict room frames → Follows rest
-    → run strict end ts (st at_field top frames) ≡ run strict end rest (st at_field (top ++ i ∷ []) frames)
+      → run strict end ts (st at_field top frames) ≡ run strict end rest (st at_field (top ++ i ∷ []) frames)
   field_run strict end top frames (field_is {p = p} {t = t} {listed = listed} {values = values} held ends) fits f =
       let h : Head = record { name = t; place = p } in
       held_run strict end h top frames held fits (ends_unquoted ends f) ∙ ends_run strict end (top ++ item t p listed values ∷ []) frames ends f
 
   pub held_run : (strict : Bool) (end : ℕ) {room : Room} {listed : Bool} {values : List Value} {ts rest : List Terminal} (h : Head) (top : List Item) (frames : List Frame) → Held room listed values ts rest → Fits strict room frames → Unquoted rest
-    → run strict end ts (st (behind_name h) top frames) ≡ run strict end rest (st behind_field (top ++ item h.name h.place listed values ∷ []) frames)
+      → run strict end ts (st (behind_name h) top frames) ≡ run strict end rest (st behind_field (top ++ item h.name h.place listed values ∷ []) frames)
   held_run strict end h top frames (holds_scalar scalar) fits unq = scalar_run strict end top frames scalar (waits_colon {h = h}) fits unq
   held_run strict end h top frames (holds_message message) fits unq = message_run strict end top frames message (waits_name {h = h}) fits
   held_run strict end h top frames (holds_colon_message message) fits unq = message_run strict end top frames message (waits_colon {h = h}) fits
@@ -180,21 +181,21 @@ mutual
   held_run strict end h top frames (holds_colon_list list) fits unq = listed_run strict end top frames list (lists_colon {h = h}) fits
 
   pub message_run : (strict : Bool) (end : ℕ) {room : Room} {value : Value} {ts rest : List Terminal} {mode : Mode} {h : Head} {slot : Slot} {colon : Bool} (top : List Item) (frames : List Frame) → Message room value ts rest → Waits mode h slot colon → Fits strict room frames
-    → run strict end ts (st mode top frames) ≡ run strict end rest (settle h slot value top frames)
+      → run strict end ts (st mode top frames) ≡ run strict end rest (settle h slot value top frames)
   message_run strict end {room} {rest = rest} {h = h} {slot = slot} top frames (message_is {inner = inner} {bracket = bracket} {p = p} {t = t} {items = items} {ts = ts} enters inside) waits fits =
       ap (λ s. carry s (λ r. run strict end ts r)) (open_step strict top frames bracket p t waits (shallow strict room inner frames fits enters))
       ∙ fields_run strict end [] (frame h slot top p bracket ∷ frames) inside (fits_inner strict room inner frames (frame h slot top p bracket) fits enters) refl
       ∙ rw (same_itself bracket) refl
 
   pub listed_run : (strict : Bool) (end : ℕ) {room : Room} {colon : Bool} {values : List Value} {ts rest : List Terminal} {mode : Mode} {h : Head} (top : List Item) (frames : List Frame) → Listed room colon values ts rest → Lists mode h colon → Fits strict room frames
-    → run strict end ts (st mode top frames) ≡ run strict end rest (close_list h values top frames)
+      → run strict end ts (st mode top frames) ≡ run strict end rest (close_list h values top frames)
   listed_run strict end top frames empty_list lists_name fits = refl
   listed_run strict end top frames empty_list lists_colon fits = refl
   listed_run strict end top frames (filled_list elements) (lists_name {h = h}) fits = elements_run strict end [] top frames elements (waits_list {h = h}) fits
   listed_run strict end top frames (filled_list elements) (lists_colon {h = h}) fits = elements_run strict end [] top frames elements (waits_list {h = h}) fits
 
   pub elements_run : (strict : Bool) (end : ℕ) {room : Room} {colon : Bool} {values : List Value} {ts rest : List Terminal} {mode : Mode} {h : Head} (old : List Value) (top : List Item) (frames : List Frame) → Elements room colon values ts rest → Waits mode h (among colon old) colon → Fits strict room frames
-    → run strict end ts (st mode top frames) ≡ run strict end rest (close_list h (old ++ values) top frames)
+      → run strict end ts (st mode top frames) ≡ run strict end rest (close_list h (old ++ values) top frames)
   elements_run strict end old top frames (last_element element) waits fits = element_run strict end top frames element waits fits refl
   elements_run strict end {colon = colon} {rest = rest} {h = h} old top frames (more_elements {value = value} {values = values} element elements) waits fits =
       element_run strict end top frames element waits fits refl
@@ -202,7 +203,7 @@ mutual
       ∙ ap (λ l. run strict end rest (close_list h l top frames)) (append_assoc old (value ∷ []) values)
 
   pub element_run : (strict : Bool) (end : ℕ) {room : Room} {colon : Bool} {value : Value} {ts rest : List Terminal} {mode : Mode} {h : Head} {slot : Slot} (top : List Item) (frames : List Frame) → Element room colon value ts rest → Waits mode h slot colon → Fits strict room frames → Unquoted rest
-    → run strict end ts (st mode top frames) ≡ run strict end rest (settle h slot value top frames)
+      → run strict end ts (st mode top frames) ≡ run strict end rest (settle h slot value top frames)
   element_run strict end top frames (scalar_element scalar) waits fits unq = scalar_run strict end top frames scalar waits fits unq
   element_run strict end top frames (message_element message) waits fits unq = message_run strict end top frames message waits fits
 

@@ -39,7 +39,7 @@ Stops p [] = Unit {0}
 Stops p (b ∷ text) = p b ≡ false
 
 front_by : (p : ℕ → Bool) (b m : ℕ) (text : List ℕ) (q : Bool) → p b ≡ q → (list_all p (take m text) ≡ true) × Stops p (drop m text)
-  → (list_all p (take (cond q (1 + m) 0) (b ∷ text)) ≡ true) × Stops p (drop (cond q (1 + m) 0) (b ∷ text))
+    → (list_all p (take (cond q (1 + m) 0) (b ∷ text)) ≡ true) × Stops p (drop (cond q (1 + m) 0) (b ∷ text))
 front_by p b m text true e rest =
     let Holds : ℕ → Type 0 = λ n. (list_all p (take n (b ∷ text)) ≡ true) × Stops p (drop n (b ∷ text)) in
     let one : suc m ≡ 1 + m = omega arith in
@@ -227,7 +227,7 @@ lexed_lex (token {at = at} {end = end} {kind = kind} (b ∷ bytes) text {rest = 
     let len : token_len kind b at (bytes ++ text) ≡ Ok (length bytes) = token_len_is kind b at bytes text is longest in
     let cut : take (length bytes) (bytes ++ text) ≡ bytes = take-append_seam bytes text in
     let behind : lex (length bytes) (at + 1) (bytes ++ text) ≡ with_front found (lex 0 end rest)
-        = behind_front (at + 1) (length bytes) bytes text refl ∙ ap (λ n. lex 0 n text) (omega arith) ∙ lexed_lex lexed in
+    = behind_front (at + 1) (length bytes) bytes text refl ∙ ap (λ n. lex 0 n text) (omega arith) ∙ lexed_lex lexed in
     rw (leads, len, cut, behind) (sym (with_both (lexeme kind at (b ∷ bytes) ∷ []) found (lex 0 end rest)))
 
 pub breaks_lex : {at : ℕ} {text : List ℕ} {p : ℕ} {w : TextWhat} → BreaksAt at text p w → lex 0 at text ≡ Err (fault p w)
@@ -268,20 +268,20 @@ lex_lexing (suc k) at start end (b ∷ text) h s e = lex_lexing k (at + 1) start
 lex_lexing zero at start end (b ∷ text) h s e =
     let same : at ≡ start = omega arith in
     subst (λ n. Lexing n (b ∷ text) end (lex_by (lead b) b at text (λ n. lex n (at + 1) text))) same
-      (by_lead (lead b) refl (λ n inside. lex_lexing n (at + 1) (at + 1 + n) end text inside refl (omega arith)))
+    (by_lead (lead b) refl (λ n inside. lex_lexing n (at + 1) (at + 1 + n) end text inside refl (omega arith)))
   where
     IsRest : Type 0
     IsRest = (n : ℕ) → n ≤ length text → Lexing (at + 1 + n) (drop n text) end (lex n (at + 1) text)
 
     by_token : (kind : TokenKind) (r : Result ℕ Fault) → lead b ≡ Token kind → token_len kind b at text ≡ r → ((n : ℕ) → n ≤ length text → Lexing (at + 1 + n) (drop n text) end (lex n (at + 1) text))
-      → Lexing at (b ∷ text) end (lex_token kind b at text r (λ n. lex n (at + 1) text))
+        → Lexing at (b ∷ text) end (lex_token kind b at text r (λ n. lex n (at + 1) text))
     by_token kind (Ok n) leads len rest =
         let st : Stands kind b text n = stands kind b at text n leads len in
         let front_len : length (take n text) ≡ n = omega (arith, length-take n text, st.inside) in
         let whole : (b ∷ take n text) ++ drop n text ≡ b ∷ text = ap (λ l. b ∷ l) (take-append-drop n text) in
         subst (λ l. Lexing at l end (with_front (lexeme kind at (b ∷ take n text) ∷ []) (lex n (at + 1) text))) whole
-          (lexing_token at end kind (b ∷ take n text) (drop n text) (lex n (at + 1) text) st.token st.longest
-            (subst (λ m. Lexing m (drop n text) end (lex n (at + 1) text)) (omega arith) (rest n st.inside)))
+        (lexing_token at end kind (b ∷ take n text) (drop n text) (lex n (at + 1) text) st.token st.longest
+        (subst (λ m. Lexing m (drop n text) end (lex n (at + 1) text)) (omega arith) (rest n st.inside)))
     by_token kind (Err f) leads len rest = record { found = []; at = at; rest = b ∷ text; before = here; breaks = token_fails kind b at text f leads len }
 
     by_lead : (l : Lead) → lead b ≡ l → ((n : ℕ) → n ≤ length text → Lexing (at + 1 + n) (drop n text) end (lex n (at + 1) text)) → Lexing at (b ∷ text) end (lex_by l b at text (λ n. lex n (at + 1) text))
@@ -292,8 +292,8 @@ lex_lexing zero at start end (b ∷ text) h s e =
         let front_len : length (take n text) ≡ n = omega (arith, length-take n text) in
         let whole : b ∷ (take n text ++ drop n text) ≡ b ∷ text = ap (λ l. b ∷ l) (take-append-drop n text) in
         subst (λ l. Lexing at l end (lex n (at + 1) text)) whole
-          (lexing_comment at b end (take n text) (drop n text) (lex n (at + 1) text) leads (line_ends text)
-            (subst (λ m. Lexing m (drop n text) end (lex n (at + 1) text)) (ap (λ m. at + 1 + m) (sym front_len)) (rest n inside)))
+        (lexing_comment at b end (take n text) (drop n text) (lex n (at + 1) text) leads (line_ends text)
+        (subst (λ m. Lexing m (drop n text) end (lex n (at + 1) text)) (ap (λ m. at + 1 + m) (sym front_len)) (rest n inside)))
     by_lead (Token kind) leads rest = by_token kind (token_len kind b at text) leads refl rest
     by_lead Nothing leads rest = record { found = []; at = at; rest = b ∷ text; before = here; breaks = bad_byte leads }
 

@@ -14,6 +14,9 @@ mod Quotes
 pub mod Scans
 mod Lexing
 mod Numbers
+mod Parts
+mod Plainness
 mod Slices
 mod Steps
 mod Failures
+mod Wholes

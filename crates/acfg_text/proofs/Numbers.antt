@@ -64,13 +64,14 @@ module _ (base : Base) (start most : ℕ) (text : List ℕ) (count value : ℕ) 
       let rest : drop count text ≡ byte ∷ drop (count + 1) text = drop-cons text count 0 more ∙ ap (λ n. byte ∷ drop n text) (sym (add-one count)) in
       let due : most - count ≡ suc (most - (count + 1)) = omega arith in
       let next : digits (digit_test base) (most - count) (drop count text) ≡ byte ∷ digits (digit_test base) (most - (count + 1)) (drop (count + 1) text)
-          = ap (λ n. digits (digit_test base) n (drop count text)) due ∙ ap (digits (digit_test base) (suc (most - (count + 1)))) rest ∙ (rw digit refl) in
+      = ap (λ n. digits (digit_test base) n (drop count text)) due ∙ ap (digits (digit_test base) (suc (most - (count + 1)))) rest ∙ (rw digit refl) in
       record {
         few = omega arith;
         inside = omega arith;
         same = read.same ∙ ap (λ l. take count text ++ l) next ∙ sym (append_assoc (take count text) (byte ∷ []) (digits (digit_test base) (most - (count + 1)) (drop (count + 1) text))) ∙ ap (λ l. l ++ digits (digit_test base) (most - (count + 1)) (drop (count + 1) text)) (sym front);
         is = ap (λ n. n * base_of base + digit_value byte) read.is ∙ sym (fold-append (λ n b. n * base_of base + digit_value b) start (take count text) (byte ∷ [])) ∙ ap (number (base_of base) start) (sym front);
-        small = step_small base start count value (digit_value byte) read.small (digit_small base byte digit) }
+        small = step_small base start count value (digit_value byte) read.small (digit_small base byte digit);
+      }
 
   pub record IsRead : Type 0 where
     pub counted : count ≡ length (digits (digit_test base) most text)

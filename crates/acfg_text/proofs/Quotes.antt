@@ -133,8 +133,12 @@ closes_at quote (plain_byte {text = text} {rest = rest} e closes) = let r : Clos
 closes_at quote (escaped {n = n} {bytes = bytes} {text = text} {rest = rest} e is closes) =
     let r : ClosesAt quote (drop n text) rest = closes_at quote closes in
     let fits : Fits n text = escape_fits text n bytes is in
-    record { count = suc (n + r.count); inside = omega (arith, r.inside, fits.inside, length-drop n text); behind = skip_drop n r.count text rest r.behind;
-      scans = λ at. rw (e, is) (scan_skip quote n (at + 1) text fits.inside ∙ r.scans (at + 1 + n) ∙ ap Closed (omega arith)) }
+    record {
+      count = suc (n + r.count);
+      inside = omega (arith, r.inside, fits.inside, length-drop n text);
+      behind = skip_drop n r.count text rest r.behind;
+      scans = λ at. rw (e, is) (scan_skip quote n (at + 1) text fits.inside ∙ r.scans (at + 1 + n) ∙ ap Closed (omega arith));
+    }
 
 -- two ends of one quoted text are one
 pub one_close : (quote : ℕ) (text rest other : List ℕ) → Closes quote text rest → Closes quote text other → rest ≡ other
@@ -217,14 +221,14 @@ scan_is quote zero at start (b ∷ text) h is = by_byte (within quote b) refl
     unknown false cut w none = (0, omega arith, bad_here w none (λ is_cut_off. let known : is_cut text ≡ true = cut_true text is_cut_off in cc))
 
     by_escape : (e : Escaped) → within quote b ≡ Backslash → escape text ≡ e → ((n : ℕ) → n ≤ length text → Scanned quote (start + 1 + n) (drop n text) (scan quote n (at + 1) text))
-      → Scanned quote start (b ∷ text) (scan_by Backslash e at text (λ n. scan quote n (at + 1) text))
+        → Scanned quote start (b ∷ text) (scan_by Backslash e at text (λ n. scan quote n (at + 1) text))
     by_escape (Some (n, bytes)) w some more =
         let fits : Fits n text = escape_fits text n bytes some in
         scanned_escape quote start b n bytes text (scan quote n (at + 1) text) w some fits.inside (more n fits.inside)
     by_escape None w none more = unknown (is_cut text) refl w none
 
     by_byte : (w : Within) → within quote b ≡ w → ((n : ℕ) → n ≤ length text → Scanned quote (start + 1 + n) (drop n text) (scan quote n (at + 1) text))
-      → Scanned quote start (b ∷ text) (scan_by w (escape text) at text (λ n. scan quote n (at + 1) text))
+        → Scanned quote start (b ∷ text) (scan_by w (escape text) at text (λ n. scan quote n (at + 1) text))
     by_byte Close w more = (1, omega arith, omega arith, closed w)
     by_byte Line w more = line_ends w
     by_byte Plain w more = scanned_plain quote start b text (scan quote 0 (at + 1) text) w (subst (λ n. Scanned quote n text (scan quote 0 (at + 1) text)) (omega arith) (more 0 (omega arith)))
@@ -276,5 +280,8 @@ closes_split quote (escaped {b = b} {n = n} {bytes = bytes} {text = text} {rest 
     let some : escape (take n text ++ s.body) ≡ Some (pair n bytes) = ap (λ l. escape (take n text ++ l)) g.is ∙ escape_with n bytes text g.first (g.others ++ rest) g.others is fits.inside behind in
     let front : length (take n text) ≡ n = omega (arith, length-take n text) in
     let left_over : drop n (take n text ++ s.body) ≡ s.body = ap (λ m. drop m (take n text ++ s.body)) (sym front) ∙ drop-append_seam (take n text) s.body in
-    record { body = b ∷ (take n text ++ s.body); is = ap (λ l. b ∷ l) (sym (take-append-drop n text) ∙ ap (λ l. take n text ++ l) s.is ∙ sym (append_assoc (take n text) s.body rest));
-      closes = escaped e some (subst (λ l. Closes quote l []) (sym left_over) s.closes) }
+    record {
+      body = b ∷ (take n text ++ s.body);
+      is = ap (λ l. b ∷ l) (sym (take-append-drop n text) ∙ ap (λ l. take n text ++ l) s.is ∙ sym (append_assoc (take n text) s.body rest));
+      closes = escaped e some (subst (λ l. Closes quote l []) (sym left_over) s.closes);
+    }

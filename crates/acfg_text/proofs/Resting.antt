@@ -137,7 +137,7 @@ takes_of true frames bytes e = denied (is_utf8 bytes) e
 -- What follows is one lemma for each mode: whatever completes the state behind a terminal completes, with it, the state before.
 module _ (strict : Bool) (items : List Item) where
   settled_rests : (h : Head) (slot : Slot) (value : Value) (top : List Item) (frames : List Frame) (ts : List Terminal) → RestsAt strict items (settle h slot value top frames) ts
-    → Settled (room_of strict frames) (λ i r. Out strict items frames i r) h slot value top ts
+      → Settled (room_of strict frames) (λ i r. Out strict items frames i r) h slot value top ts
   settled_rests h single value top frames ts r = r
   settled_rests h (among colon values) value top frames ts r = r
 
@@ -145,12 +145,16 @@ module _ (strict : Bool) (items : List Item) where
   field_first p u top frames ts r =
       let i : Item = item u p r.listed r.values in
       let rest : FieldsThen (room_of strict frames) (λ i r. Out strict items frames i r) (top ++ i ∷ []) r.end.mid = r.end.then_fields in
-      record { more = i ∷ rest.more; mid = rest.mid; fields = more_fields (field_is r.held r.end.ends) rest.fields;
-        out = subst (λ l. Out strict items frames l rest.mid) (append_assoc top (i ∷ []) rest.more) rest.out }
+      record {
+        more = i ∷ rest.more;
+        mid = rest.mid;
+        fields = more_fields (field_is r.held r.end.ends) rest.fields;
+        out = subst (λ l. Out strict items frames l rest.mid) (append_assoc top (i ∷ []) rest.more) rest.out;
+      }
 
   closing : (b : Bracket) (f : Frame) (p : ℕ) (u : List ℕ) (top : List Item) (frames : List Frame) (ts : List Terminal) (q : Bool) → same b f.bracket ≡ q
-    → OkThen (step_by None (closed_by q f p top frames) None p) (λ s. RestsAt strict items s ts)
-    → Rests strict items at_field top (f ∷ frames) (terminal (c.Close b) p u ∷ ts)
+      → OkThen (step_by None (closed_by q f p top frames) None p) (λ s. RestsAt strict items s ts)
+      → Rests strict items at_field top (f ∷ frames) (terminal (c.Close b) p u ∷ ts)
   closing b f p u top frames ts true e ok =
       let out : Out strict items (f ∷ frames) top (terminal (c.Close f.bracket) p u ∷ ts) = closes_by (settled_rests f.head f.slot (v.Message f.place (tree top p)) f.top frames ts ok) in
       let there : Out strict items (f ∷ frames) top (terminal (c.Close b) p u ∷ ts) = subst (λ d. Out strict items (f ∷ frames) top (terminal (c.Close d) p u ∷ ts)) (sym (same_is b f.bracket e)) out in
@@ -184,7 +188,7 @@ module _ (strict : Bool) (items : List Item) where
     settled : Settled (room_of strict frames) (λ i r. Out strict items frames i r) h slot value top rest
 
   message_then : (h : Head) (slot : Slot) (b : Bracket) (p : ℕ) (u : List ℕ) (top : List Item) (frames : List Frame) (ts : List Terminal) (q : Bool) → (strict && nat_le 32 (length frames)) ≡ q
-    → OkThen (step_by None (Some (opened h slot b p top frames)) (refused q p TooDeep) p) (λ s. RestsAt strict items s ts) → MessageThen h slot top frames (terminal (c.Open b) p u) ts
+      → OkThen (step_by None (Some (opened h slot b p top frames)) (refused q p TooDeep) p) (λ s. RestsAt strict items s ts) → MessageThen h slot top frames (terminal (c.Open b) p u) ts
   message_then h slot b p u top frames ts true e ok = absurd ok
   message_then h slot b p u top frames ts false e ok = whole ok.more ok.mid ok.fields ok.out
     where
@@ -207,7 +211,7 @@ module _ (strict : Bool) (items : List Item) where
 
   -- a text that begins, and what follows it
   text_scalar : (h : Head) (slot : Slot) (p : ℕ) (u : List ℕ) (top : List Item) (frames : List Frame) (ts : List Terminal) (r : Rests strict items (in_text h slot p (spelled u)) top frames ts)
-    → Scalar (room_of strict frames) (v.Text p (spelled u ++ r.more)) (terminal c.Quoted p u ∷ ts) r.mid
+      → Scalar (room_of strict frames) (v.Text p (spelled u ++ r.more)) (terminal c.Quoted p u ∷ ts) r.mid
   text_scalar h slot p u top frames ts r = text_is (texts_of p u r.more ts r.mid r.onward) r.takes
 
   back_colon : (h : Head) (class : Class) (p : ℕ) (u : List ℕ) (top : List Item) (frames : List Frame) (ts : List Terminal) → OkThen (step_at strict (behind_colon h) class (terminal class p u) top frames) (λ s. RestsAt strict items s ts) → Rests strict items (behind_colon h) top frames (terminal class p u ∷ ts)
@@ -223,14 +227,18 @@ module _ (strict : Bool) (items : List Item) where
 
   -- one item of a list, and what follows it
   element_then : (h : Head) (colon : Bool) (values : List Value) (value : Value) (top : List Item) (frames : List Frame) (ts rest : List Terminal) → Element (room_of strict frames) colon value ts rest
-    → BehindItem (room_of strict frames) (λ i r. Out strict items frames i r) h colon (values ++ value ∷ []) top rest → Rests strict items (at_item h colon values) top frames ts
+      → BehindItem (room_of strict frames) (λ i r. Out strict items frames i r) h colon (values ++ value ∷ []) top rest → Rests strict items (at_item h colon values) top frames ts
   element_then h colon values value top frames ts rest element (list_closes {rest = behind} end) = record { more = value ∷ []; mid = behind; elements = last_element element; end = end }
   element_then h colon values value top frames ts rest element (comma_then then_item) =
-      record { more = value ∷ then_item.more; mid = then_item.mid; elements = more_elements element then_item.elements;
-        end = subst (λ l. EndThen (room_of strict frames) (λ i r. Out strict items frames i r) (top ++ listed_item h l ∷ []) then_item.mid) (append_assoc values (value ∷ []) then_item.more) then_item.end }
+      record {
+        more = value ∷ then_item.more;
+        mid = then_item.mid;
+        elements = more_elements element then_item.elements;
+        end = subst (λ l. EndThen (room_of strict frames) (λ i r. Out strict items frames i r) (top ++ listed_item h l ∷ []) then_item.mid) (append_assoc values (value ∷ []) then_item.more) then_item.end;
+      }
 
   back_item : (h : Head) (colon : Bool) (values : List Value) (class : Class) (p : ℕ) (u : List ℕ) (top : List Item) (frames : List Frame) (ts : List Terminal) → OkThen (step_at strict (at_item h colon values) class (terminal class p u) top frames) (λ s. RestsAt strict items s ts)
-    → Rests strict items (at_item h colon values) top frames (terminal class p u ∷ ts)
+      → Rests strict items (at_item h colon values) top frames (terminal class p u ∷ ts)
   back_item h colon values (c.Open b) p u top frames ts ok =
       let m : MessageThen h (among colon values) top frames (terminal (c.Open b) p u) ts = message_then h (among colon values) b p u top frames ts (strict && nat_le 32 (length frames)) refl ok in
       element_then h colon values m.value top frames (terminal (c.Open b) p u ∷ ts) m.rest (message_element m.message) m.settled
@@ -244,7 +252,7 @@ module _ (strict : Bool) (items : List Item) where
   list_then h colon top frames ts r = record { values = r.more; mid = r.mid; listed = λ q w. filled_list r.elements; end = r.end }
 
   back_list : (h : Head) (colon : Bool) (class : Class) (p : ℕ) (u : List ℕ) (top : List Item) (frames : List Frame) (ts : List Terminal) → OkThen (step_at strict (in_list h colon) class (terminal class p u) top frames) (λ s. RestsAt strict items s ts)
-    → Rests strict items (in_list h colon) top frames (terminal class p u ∷ ts)
+      → Rests strict items (in_list h colon) top frames (terminal class p u ∷ ts)
   back_list h colon c.CloseList p u top frames ts ok = record { values = []; mid = ts; listed = λ q w. empty_list; end = ok }
   back_list h colon c.Word p u top frames ts ok = list_then h colon top frames (terminal c.Word p u ∷ ts) (back_item h colon [] c.Word p u top frames ts ok)
   back_list h colon c.Number p u top frames ts ok = list_then h colon top frames (terminal c.Number p u ∷ ts) (back_item h colon [] c.Number p u top frames ts ok)
@@ -253,7 +261,7 @@ module _ (strict : Bool) (items : List Item) where
   back_list h colon _ p u top frames ts ok = absurd ok
 
   back_behind_item : (h : Head) (colon : Bool) (values : List Value) (class : Class) (p : ℕ) (u : List ℕ) (top : List Item) (frames : List Frame) (ts : List Terminal) → OkThen (step_at strict (behind_item h colon values) class (terminal class p u) top frames) (λ s. RestsAt strict items s ts)
-    → Rests strict items (behind_item h colon values) top frames (terminal class p u ∷ ts)
+      → Rests strict items (behind_item h colon values) top frames (terminal class p u ∷ ts)
   back_behind_item h colon values c.Comma p u top frames ts ok = comma_then ok
   back_behind_item h colon values c.CloseList p u top frames ts ok = list_closes ok
   back_behind_item h colon values (c.Open b) p u top frames ts ok = absurd (never (strict && nat_le 32 (length frames)) p ok)
@@ -267,8 +275,13 @@ module _ (strict : Bool) (items : List Item) where
   text_ends : (h : Head) (slot : Slot) (place : ℕ) (bytes : List ℕ) (top : List Item) (frames : List Frame) (ts : List Terminal) → Accepts strict bytes → RestsAt strict items (settle h slot (v.Text place bytes) top frames) ts → Rests strict items (in_text h slot place bytes) top frames ts
   text_ends h slot place bytes top frames ts acc r =
       let whole : bytes ++ [] ≡ bytes = append-nil bytes in
-      record { more = []; mid = ts; onward = no_texts; takes = subst (λ b. Takes (room_of strict frames) b) (sym whole) (takes_of strict frames bytes acc);
-        settled = subst (λ b. Settled (room_of strict frames) (λ i r. Out strict items frames i r) h slot (v.Text place b) top ts) (sym whole) (settled_rests h slot (v.Text place bytes) top frames ts r) }
+      record {
+        more = [];
+        mid = ts;
+        onward = no_texts;
+        takes = subst (λ b. Takes (room_of strict frames) b) (sym whole) (takes_of strict frames bytes acc);
+        settled = subst (λ b. Settled (room_of strict frames) (λ i r. Out strict items frames i r) h slot (v.Text place b) top ts) (sym whole) (settled_rests h slot (v.Text place bytes) top frames ts r);
+      }
 
   accepted : (q : Bool) (place p : ℕ) (read : Option State) (deep : Option Fault) (ts : List Terminal) → OkThen (step_by (refused q place BadUtf8) read deep p) (λ s. RestsAt strict items s ts) → q ≡ false
   accepted true place p read deep ts ok = absurd ok
@@ -279,20 +292,25 @@ module _ (strict : Bool) (items : List Item) where
   back_settled h (among colon values) value class p u top frames ts ok = back_behind_item h colon (values ++ value ∷ []) class p u top frames ts ok
 
   back_unquoted : (h : Head) (slot : Slot) (place : ℕ) (bytes : List ℕ) (class : Class) (p : ℕ) (u : List ℕ) (top : List Item) (frames : List Frame) (ts : List Terminal) → is_quoted class ≡ false → OkThen (step_at strict (in_text h slot place bytes) class (terminal class p u) top frames) (λ s. RestsAt strict items s ts)
-    → Rests strict items (in_text h slot place bytes) top frames (terminal class p u ∷ ts)
+      → Rests strict items (in_text h slot place bytes) top frames (terminal class p u ∷ ts)
   back_unquoted h slot place bytes class p u top frames ts unq ok =
       let told : OkThen (step_by (refused (strict && not (is_utf8 bytes)) place BadUtf8) (on_text (is_quoted class) h slot place bytes class (terminal class p u) top frames) (depth_fault strict class p frames) p) (λ s. RestsAt strict items s ts)
-          = subst (λ q. OkThen (step_by (text_fault strict (in_text h slot place bytes) q) (on_text (is_quoted class) h slot place bytes class (terminal class p u) top frames) (depth_fault strict class p frames) p) (λ s. RestsAt strict items s ts)) unq ok in
+      = subst (λ q. OkThen (step_by (text_fault strict (in_text h slot place bytes) q) (on_text (is_quoted class) h slot place bytes class (terminal class p u) top frames) (depth_fault strict class p frames) p) (λ s. RestsAt strict items s ts)) unq ok in
       let acc : Accepts strict bytes = accepted (strict && not (is_utf8 bytes)) place p (on_text (is_quoted class) h slot place bytes class (terminal class p u) top frames) (depth_fault strict class p frames) ts told in
       text_ends h slot place bytes top frames (terminal class p u ∷ ts) acc
-        (back_settled h slot (v.Text place bytes) class p u top frames ts (subst (λ r. OkThen r (λ s. RestsAt strict items s ts)) (settles strict h slot place bytes top frames (terminal class p u) unq acc) ok))
+      (back_settled h slot (v.Text place bytes) class p u top frames ts (subst (λ r. OkThen r (λ s. RestsAt strict items s ts)) (settles strict h slot place bytes top frames (terminal class p u) unq acc) ok))
 
   back_text : (h : Head) (slot : Slot) (place : ℕ) (bytes : List ℕ) (class : Class) (p : ℕ) (u : List ℕ) (top : List Item) (frames : List Frame) (ts : List Terminal) → OkThen (step_at strict (in_text h slot place bytes) class (terminal class p u) top frames) (λ s. RestsAt strict items s ts)
-    → Rests strict items (in_text h slot place bytes) top frames (terminal class p u ∷ ts)
+      → Rests strict items (in_text h slot place bytes) top frames (terminal class p u ∷ ts)
   back_text h slot place bytes c.Quoted p u top frames ts ok =
       let joined : (bytes ++ spelled u) ++ ok.more ≡ bytes ++ (spelled u ++ ok.more) = append_assoc bytes (spelled u) ok.more in
-      record { more = spelled u ++ ok.more; mid = ok.mid; onward = some_texts (texts_of p u ok.more ts ok.mid ok.onward); takes = subst (λ b. Takes (room_of strict frames) b) joined ok.takes;
-        settled = subst (λ b. Settled (room_of strict frames) (λ i r. Out strict items frames i r) h slot (v.Text place b) top ok.mid) joined ok.settled }
+      record {
+        more = spelled u ++ ok.more;
+        mid = ok.mid;
+        onward = some_texts (texts_of p u ok.more ts ok.mid ok.onward);
+        takes = subst (λ b. Takes (room_of strict frames) b) joined ok.takes;
+        settled = subst (λ b. Settled (room_of strict frames) (λ i r. Out strict items frames i r) h slot (v.Text place b) top ok.mid) joined ok.settled;
+      }
   back_text h slot place bytes class p u top frames ts ok = back_unquoted h slot place bytes class p u top frames ts refl ok
 
   backwards : (mode : Mode) (class : Class) (p : ℕ) (u : List ℕ) (top : List Item) (frames : List Frame) (ts : List Terminal) → OkThen (step_at strict mode class (terminal class p u) top frames) (λ s. RestsAt strict items s ts) → Rests strict items mode top frames (terminal class p u ∷ ts)

@@ -49,7 +49,7 @@ module _ (quote at : ℕ) (text : List ℕ) (inside : at < length text) where
   pub scan_escape : (m : Meaning) → within quote byte ≡ Backslash → escape rest ≡ Some (meaning_of m) → scan quote 0 at (drop at text) ≡ scan quote 0 (at + (m.length + 1)) (drop (at + (m.length + 1)) text)
   scan_escape m e is =
       scan_here ∙ (rw (e, is) (scan_skip quote m.length (at + 1) rest (escape_inside rest m is) ∙ ap (λ l. scan quote 0 (at + 1 + m.length) l) (drop-drop m.length (at + 1) text)
-        ∙ ap (λ n. scan quote 0 n (drop n text)) (omega arith)))
+      ∙ ap (λ n. scan quote 0 n (drop n text)) (omega arith)))
 
   pub scan_unknown : within quote byte ≡ Backslash → escape rest ≡ None → scan quote 0 at (drop at text) ≡ unknown_escape (is_cut rest) at
   scan_unknown e is = scan_here ∙ rw (e, is) refl

@@ -49,7 +49,7 @@ module _ (at : ℕ) (source : List ℕ) (inside : at < length source) where
   cut end above le = ap (λ n. take n (byte ∷ rest)) (let is : suc (end - (at + 1)) ≡ end - at = omega arith in is) ∙ ap (take (end - at)) (sym here)
 
   pub lex_found : (kind : TokenKind) (end : ℕ) → at < end → end ≤ length source → lead byte ≡ leads.Token kind → token_len kind byte at rest ≡ Ok (end - (at + 1))
-    → lex 0 at (drop at source) ≡ with_front (lexeme kind at (take (end - at) (drop at source)) ∷ []) (lex 0 end (drop end source))
+      → lex 0 at (drop at source) ≡ with_front (lexeme kind at (take (end - at) (drop at source)) ∷ []) (lex 0 end (drop end source))
   lex_found kind end above le e len =
       lex_here ∙ ap (λ l. lex_by l byte at rest (λ n. lex n (at + 1) rest)) e ∙ ap (λ r. lex_token kind byte at rest r (λ n. lex n (at + 1) rest)) len
       ∙ ap (λ t. with_front (lexeme kind at t ∷ []) (lex (end - (at + 1)) (at + 1) rest)) (cut end above le)

@@ -304,8 +304,15 @@ inv_unquoted before s t r unq e =
 
 -- a quoted token begins a text or goes on with one
 joined_inv : (before : List Terminal) (place : ℕ) (bytes : List ℕ) (p : ℕ) (u : List ℕ) → InText before place bytes → InText (before ++ terminal c.Quoted p u ∷ []) place (bytes ++ spelled u)
-joined_inv before place bytes p u inv = record { front = inv.front; first = inv.first; texts = inv.texts ++ terminal c.Quoted p u ∷ [];
-  is = ap (λ b. b ++ terminal c.Quoted p u ∷ []) inv.is ∙ append_assoc inv.front (inv.first ∷ inv.texts) (terminal c.Quoted p u ∷ []); unquoted = inv.unquoted; joins = texts_one p u refl inv.joins; begins = inv.begins }
+joined_inv before place bytes p u inv = record {
+  front = inv.front;
+  first = inv.first;
+  texts = inv.texts ++ terminal c.Quoted p u ∷ [];
+  is = ap (λ b. b ++ terminal c.Quoted p u ∷ []) inv.is ∙ append_assoc inv.front (inv.first ∷ inv.texts) (terminal c.Quoted p u ∷ []);
+  unquoted = inv.unquoted;
+  joins = texts_one p u refl inv.joins;
+  begins = inv.begins;
+}
 
 begun_inv : (before : List Terminal) (p : ℕ) (u : List ℕ) → EndsUnquoted before → InText (before ++ terminal c.Quoted p u ∷ []) p (spelled u)
 begun_inv before p u unq = record { front = before; first = terminal c.Quoted p u; texts = []; is = refl; unquoted = unq; joins = last_text; begins = refl }
@@ -382,8 +389,8 @@ finish_fault end before s f w inv (ends_bad bad) = subst (λ b. Faulty b end f.p
 finish_fault end before s f w inv (ends_early none is) =
     let free : walk false before begin ≡ Ok s = loosen before begin s w in
     let no_form : (items : List Item) → HasForm before items → ⊥ = λ items form.
-      let runs : finish false end s ≡ Ok items = sym (ap (λ q. carry q (λ r. finish false end r)) free) ∙ sym (run_walk false end before begin) ∙ form_run end before items form in
-      let some : done s.mode s.top s.frames ≡ Some items = finish_read false s end items runs in cc in
+    let runs : finish false end s ≡ Ok items = sym (ap (λ q. carry q (λ r. finish false end r)) free) ∙ sym (run_walk false end before begin) ∙ form_run end before items form in
+    let some : done s.mode s.top s.frames ≡ Some items = finish_read false s end items runs in cc in
     subst (λ g. Faulty before end g.place g.what) (sym is) (early (walk_begins before s free) no_form)
 
 step_fault : (end : ℕ) (before : List Terminal) (t : Terminal) (ts : List Terminal) (s : State) (f : Fault) → walk true before begin ≡ Ok s → Inv before s → StepFails s t f → Faulty (before ++ t ∷ ts) end f.place f.what
@@ -399,11 +406,11 @@ unfolding run
 fault_from end before [] s f w inv e = subst (λ b. Faulty b end f.place f.what) (sym (append-nil before)) (finish_fault end before s f w inv (finish_fails s end f e))
 fault_from end before (t ∷ ts) s f w inv e =
     carried (step true s t) refl e
-      (λ r stepped rest. subst (λ b. Faulty b end f.place f.what) (append_assoc before (t ∷ []) ts)
-        (fault_from end (before ++ t ∷ []) ts r f (walk_one true before t begin ∙ ap (λ q. carry q (λ z. step true z t)) w ∙ stepped) (inv_step before s t r inv (read_step true s t r stepped)) rest))
+    (λ r stepped rest. subst (λ b. Faulty b end f.place f.what) (append_assoc before (t ∷ []) ts)
+    (fault_from end (before ++ t ∷ []) ts r f (walk_one true before t begin ∙ ap (λ q. carry q (λ z. step true z t)) w ∙ stepped) (inv_step before s t r inv (read_step true s t r stepped)) rest))
   where
     carried : (o : Result State Fault) → step true s t ≡ o → carry o (λ r. run true end ts r) ≡ Err f
-      → ((r : State) → step true s t ≡ Ok r → run true end ts r ≡ Err f → Faulty (before ++ t ∷ ts) end f.place f.what) → Faulty (before ++ t ∷ ts) end f.place f.what
+        → ((r : State) → step true s t ≡ Ok r → run true end ts r ≡ Err f → Faulty (before ++ t ∷ ts) end f.place f.what) → Faulty (before ++ t ∷ ts) end f.place f.what
     carried (Ok r) is e go = go r is e
     carried (Err g) is e go = let same : g ≡ f = cc in step_fault end before t ts s f w inv (step_fails s t f (is ∙ ap Err same))
 
@@ -483,7 +490,7 @@ walk_low q (t ∷ ts) s below low = carried (step true s t) refl (λ r e. walk_l
 
 -- a fault at a terminal's place
 stops_there : (end : ℕ) (before : List Terminal) (t : Terminal) (after : List Terminal) (w : TextWhat) → Rising 0 (before ++ t ∷ after) end
-  → ((s : State) → walk true before begin ≡ Ok s → Low t.place s.mode → StopsBy t.place w (run true end (t ∷ after) s)) → StopsBy t.place w (run true end (before ++ t ∷ after) begin)
+    → ((s : State) → walk true before begin ≡ Ok s → Low t.place s.mode → StopsBy t.place w (run true end (t ∷ after) s)) → StopsBy t.place w (run true end (before ++ t ∷ after) begin)
 stops_there end before t after w rising go =
     subst (StopsBy t.place w) (sym (run_append true end before (t ∷ after) begin)) (carried (walk true before begin) refl (walk_low t.place before begin (rising_below 0 before t after end rising) tt))
   where
@@ -492,7 +499,7 @@ stops_there end before t after w rising go =
     carried (Err f) e low = inl low
 
 stops_step : (end : ℕ) (t : Terminal) (after : List Terminal) (s : State) (w : TextWhat) → ((r : State) → read_of s t ≡ Some r → step true s t ≡ Ok r → StopsBy t.place w (run true end after r))
-  → ((f : Fault) → StepFails s t f → (f.place < t.place) ⊎ ((f.place ≡ t.place) × (f.what ≡ w))) → StopsBy t.place w (run true end (t ∷ after) s)
+    → ((f : Fault) → StepFails s t f → (f.place < t.place) ⊎ ((f.place ≡ t.place) × (f.what ≡ w))) → StopsBy t.place w (run true end (t ∷ after) s)
 unfolding run
 stops_step end t after s w go fails = carried (step true s t) refl
   where
@@ -575,7 +582,7 @@ begins_front : (a b : List Terminal) → Begins (a ++ b) → Begins a
 begins_front a b (more, items, form) = (b ++ more, items, subst (λ l. HasForm l items) (append_assoc a b more) form)
 
 stops_quoted : (end : ℕ) (before : List Terminal) (p : ℕ) (u : List ℕ) (texts after : List Terminal) (bytes : List ℕ) → Rising 0 (before ++ terminal c.Quoted p u ∷ (texts ++ after)) end → Begins (before ++ terminal c.Quoted p u ∷ texts) → EndsUnquoted before
-  → Texts bytes (terminal c.Quoted p u ∷ texts) [] → BeginsUnquoted after → is_utf8 bytes ≡ false → StopsBy p BadUtf8 (run true end (before ++ terminal c.Quoted p u ∷ (texts ++ after)) begin)
+    → Texts bytes (terminal c.Quoted p u ∷ texts) [] → BeginsUnquoted after → is_utf8 bytes ≡ false → StopsBy p BadUtf8 (run true end (before ++ terminal c.Quoted p u ∷ (texts ++ after)) begin)
 stops_quoted end before p u texts after bytes rising begins unq joins ends bad = stops_there end before (terminal c.Quoted p u) (texts ++ after) BadUtf8 rising
     (λ s w low. stops_step end (terminal c.Quoted p u) (texts ++ after) s BadUtf8 (λ r read stepped. read_on s r (other s w) read) (λ f fails. why s w (other s w) f fails))
   where
@@ -586,7 +593,7 @@ stops_quoted end before p u texts after bytes rising begins unq joins ends bad =
     read_on s r plain_mode read =
         let b : BeginsText (terminal c.Quoted p u) r.mode = some_then (read_of s (terminal c.Quoted p u)) (λ z. BeginsText (terminal c.Quoted p u) z.mode) r (begins_text s.mode (terminal c.Quoted p u) s.top s.frames plain_mode) read in
         let runs : run true end (texts ++ after) r ≡ Err (fault p BadUtf8)
-            = ap (λ m. run true end (texts ++ after) (st m r.top r.frames)) b.is ∙ first_text true end b.h b.slot p r.top r.frames (texts_more after joins) ∙ bad_run end b.h b.slot p bytes r.top r.frames after ends bad in
+        = ap (λ m. run true end (texts ++ after) (st m r.top r.frames)) b.is ∙ first_text true end b.h b.slot p r.top r.frames (texts_more after joins) ∙ bad_run end b.h b.slot p bytes r.top r.frames after ends bad in
         subst (StopsBy p BadUtf8) (sym runs) (inr (refl, refl))
 
     why : (s : State) → walk true before begin ≡ Ok s → is_text s.mode ≡ false → (f : Fault) → StepFails s (terminal c.Quoted p u) f → (f.place < p) ⊎ ((f.place ≡ p) × (f.what ≡ BadUtf8))
@@ -597,7 +604,7 @@ stops_quoted end before p u texts after bytes rising begins unq joins ends bad =
     why s w plain_mode f (bad_bytes bad_one) = let quoted : true ≡ false = bad_one.ends in absurd cc
 
 stops_text : (end : ℕ) (before : List Terminal) {first : Terminal} {texts : List Terminal} (after : List Terminal) {bytes : List ℕ} → Texts bytes (first ∷ texts) [] → Rising 0 (before ++ ((first ∷ texts) ++ after)) end → Begins (before ++ first ∷ texts) → EndsUnquoted before
-  → BeginsUnquoted after → is_utf8 bytes ≡ false → StopsBy first.place BadUtf8 (run true end (before ++ ((first ∷ texts) ++ after)) begin)
+    → BeginsUnquoted after → is_utf8 bytes ≡ false → StopsBy first.place BadUtf8 (run true end (before ++ ((first ∷ texts) ++ after)) begin)
 stops_text end before after (last_text {p = p} {t = u}) rising begins unq ends bad = stops_quoted end before p u [] after (spelled u) rising begins unq last_text ends bad
 stops_text end before after (more_texts {p = p} u bytes {ts = ts} texts) rising begins unq ends bad = stops_quoted end before p u ts after (spelled u ++ bytes) rising begins unq (more_texts u bytes texts) ends bad
 

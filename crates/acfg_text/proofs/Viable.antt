@@ -109,5 +109,5 @@ walk_begins ts s e =
 pub begins_walk : (ts : List Terminal) → Begins ts → (s : State) × (walk false ts begin ≡ Ok s)
 begins_walk ts (more, items, form) =
     let c : (s : State) × (walk false ts begin ≡ Ok s) × (run false 0 more s ≡ Ok items)
-        = carried_ok (walk false ts begin) (λ q. run false 0 more q) items (sym (run_append false 0 ts more begin) ∙ form_run 0 (ts ++ more) items form) in
+    = carried_ok (walk false ts begin) (λ q. run false 0 more q) items (sym (run_append false 0 ts more begin) ∙ form_run 0 (ts ++ more) items form) in
     (c.0, c.1)

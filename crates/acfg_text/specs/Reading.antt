@@ -5,16 +5,22 @@ use Rattle.std.specs.Str.{IsAscii}
 use Rattle.acfg_text.specs.declared.classes.Class.{Class}
 use Rattle.acfg_text.specs.declared.classes.Class.TheVariants as c
 use Rattle.acfg_text.specs.declared.token.Token.{Token}
+use Rattle.acfg_text.specs.declared.terminals.Seen.{Seen}
+use Rattle.acfg_text.specs.declared.classes.Bracket.{Bracket}
 use Rattle.acfg_text.specs.declared.tree.Item.{Item}
+use Rattle.acfg_text.specs.declared.tree.Value.TheVariants as v
 use Rattle.acfg_text.specs.declared.tree.Value.{Value}
 use Rattle.acfg_text.specs.declared.fault.TextWhat.{TextWhat}
-use Rattle.acfg_text.specs.Trees.{item}
-use Rattle.acfg_text.specs.Terminals.{Lexeme, lexeme_of, Terminal, terminal_of}
+use Rattle.acfg_text.specs.Trees.{item, tree}
+use Rattle.acfg_text.specs.Terminals.{Lexeme, lexeme_of, Terminal, terminal, terminal_of}
 use Rattle.acfg_text.specs.TextFaults.{is_quoted}
-use Rattle.acfg_text.specs.Machine.{Head, Slot, single, among, Frame, Mode, at_field, behind_field, behind_name, behind_colon, in_list, at_item, State, st, Fault, fault, settle, close_list, run, Waits, Lists}
+use Rattle.acfg_text.specs.Machine.{Head, Slot, single, among, Frame, Mode, at_field, behind_field, behind_name, behind_colon, in_list, at_item, behind_item, in_text, State, st, Fault, fault, settle, close_list, run, begin, Waits, Lists}
 
 abbrev pub terminal_at : Token → Terminal
 terminal_at token = terminal_of (lexeme_of token)
+
+abbrev pub seen_of : Seen → Terminal
+seen_of t = terminal t.class t.place t.text.now
 
 -- the terminals from a token on
 abbrev pub ahead : List Token → ℕ → List Terminal
@@ -27,9 +33,46 @@ IsPlain token = is_quoted (terminal_at token).class ≡ false → IsAscii token.
 abbrev pub ArePlain : List Token → Type 0
 ArePlain tokens = All IsPlain tokens
 
-abbrev pub place_at : List Terminal → ℕ → ℕ
-place_at [] end = end
-place_at (t ∷ ts) end = t.place
+-- this token stands there
+abbrev pub IsNext : List Token → ℕ → Seen → Type 0
+IsNext tokens at t = ahead tokens at ≡ seen_of t ∷ ahead tokens (at + 1)
+
+-- no field begins here, and no quoted token stands here
+abbrev pub NoField : List Terminal → Type 0
+NoField [] = Unit {0}
+NoField (t ∷ ts) = t.class ≡ c.Word → ⊥
+
+abbrev pub NoQuote : List Terminal → Type 0
+NoQuote [] = Unit {0}
+NoQuote (t ∷ ts) = is_quoted t.class ≡ false
+
+abbrev pub IsQuoteAt : List Token → ℕ → List ℕ → Type 0
+IsQuoteAt tokens at text = (p : ℕ) × (ahead tokens at ≡ terminal c.Quoted p text ∷ ahead tokens (at + 1))
+
+abbrev pub ClosesList : List Token → ℕ → Type 0
+ClosesList tokens at = (p : ℕ) × (text : List ℕ) × (ahead tokens at ≡ terminal c.CloseList p text ∷ ahead tokens (at + 1))
+
+abbrev pub NoClosing : List Terminal → Type 0
+NoClosing [] = Unit {0}
+NoClosing (t ∷ ts) = t.class ≡ c.CloseList → ⊥
+
+abbrev pub ClosesNoList : List Token → ℕ → Type 0
+ClosesNoList tokens at = NoClosing (ahead tokens at)
+
+-- neither a message nor a list opens with it
+abbrev pub IsNoOpening : Class → Type 0
+IsNoOpening (c.Open bracket) = ⊥
+IsNoOpening c.OpenList = ⊥
+IsNoOpening _ = Unit {0}
+
+-- a field's end leads to where the next field is due
+abbrev pub SkipsEnd : List Token → ℕ → ℕ → Type 0
+SkipsEnd tokens at next = (end : ℕ) (top : List Item) (frames : List Frame) → run true end (ahead tokens at) (st behind_field top frames) ≡ run true end (ahead tokens next) (st at_field top frames)
+
+-- where a list is behind an item: at the next one, or closed
+abbrev pub list_state : Bool → Head → Bool → List Value → List Item → List Frame → State
+list_state true h colon values top frames = st (at_item h colon values) top frames
+list_state false h colon values top frames = close_list h values top frames
 
 module _ (tokens : List Token) (end : ℕ) where
   -- the machine goes from one state at a token to another one at a later token
@@ -38,11 +81,6 @@ module _ (tokens : List Token) (end : ℕ) where
 
   abbrev pub FailsBy : ℕ → State → ℕ → TextWhat → Type 0
   FailsBy from s p w = run true end (ahead tokens from) s ≡ Err (fault p w)
-
-  -- no field begins here
-  abbrev pub NoField : List Terminal → Type 0
-  NoField [] = Unit {0}
-  NoField (t ∷ ts) = t.class ≡ c.Word → ⊥
 
   pub record ReadsFields (depth from : ℕ) (items : List Item) (at : ℕ) : Type 0 where
     pub leads : (frames : List Frame) → length frames ≡ depth → Leads from (st at_field [] frames) at (st at_field items frames)
@@ -59,14 +97,14 @@ module _ (tokens : List Token) (end : ℕ) where
 
   abbrev pub ReadsHeld : ℕ → ℕ → Bool → List Value → ℕ → Type 0
   ReadsHeld depth from listed values at = (h : Head) (top : List Item) (frames : List Frame) → length frames ≡ depth
-    → Leads from (st (behind_name h) top frames) at (st behind_field (top ++ item h.name h.place listed values ∷ []) frames)
+      → Leads from (st (behind_name h) top frames) at (st behind_field (top ++ item h.name h.place listed values ∷ []) frames)
 
   abbrev pub FailsHeld : ℕ → ℕ → ℕ → TextWhat → Type 0
   FailsHeld depth from p w = (h : Head) (top : List Item) (frames : List Frame) → length frames ≡ depth → FailsBy from (st (behind_name h) top frames) p w
 
   abbrev pub ReadsColon : ℕ → ℕ → Bool → List Value → ℕ → Type 0
   ReadsColon depth from listed values at = (h : Head) (top : List Item) (frames : List Frame) → length frames ≡ depth
-    → Leads from (st (behind_colon h) top frames) at (st behind_field (top ++ item h.name h.place listed values ∷ []) frames)
+      → Leads from (st (behind_colon h) top frames) at (st behind_field (top ++ item h.name h.place listed values ∷ []) frames)
 
   abbrev pub FailsColon : ℕ → ℕ → ℕ → TextWhat → Type 0
   FailsColon depth from p w = (h : Head) (top : List Item) (frames : List Frame) → length frames ≡ depth → FailsBy from (st (behind_colon h) top frames) p w
@@ -89,3 +127,33 @@ module _ (tokens : List Token) (end : ℕ) where
 
   abbrev pub FailsElement : Bool → ℕ → ℕ → ℕ → TextWhat → Type 0
   FailsElement colon depth from p w = (h : Head) (old : List Value) (top : List Item) (frames : List Frame) → length frames ≡ depth → FailsBy from (st (at_item h colon old) top frames) p w
+
+  -- a scalar behind a colon or in a list that stands behind one
+  abbrev pub FailsScalar : ℕ → ℕ → ℕ → TextWhat → Type 0
+  FailsScalar depth from p w = (h : Head) (old : List Value) (top : List Item) (frames : List Frame) → length frames ≡ depth
+      → FailsBy from (st (behind_colon h) top frames) p w × FailsBy from (st (at_item h true old) top frames) p w
+
+  abbrev pub ClosesBy : ℕ → Bracket → ℕ → Type 0
+  ClosesBy at bracket place = (items : List Item) (f : Frame) (frames : List Frame) → f.bracket ≡ bracket
+      → Leads at (st at_field items (f ∷ frames)) (at + 1) (settle f.head f.slot (v.Message f.place (tree items place)) f.top frames)
+
+  abbrev pub FailsToClose : ℕ → Bracket → ℕ → TextWhat → Type 0
+  FailsToClose at bracket p w = (items : List Item) (f : Frame) (frames : List Frame) → f.bracket ≡ bracket → FailsBy at (st at_field items (f ∷ frames)) p w
+
+  abbrev pub GoesOn : ℕ → Bool → Type 0
+  GoesOn at more = (h : Head) (colon : Bool) (values : List Value) (top : List Item) (frames : List Frame) → Leads at (st (behind_item h colon values) top frames) (at + 1) (list_state more h colon values top frames)
+
+  abbrev pub FailsToGoOn : ℕ → ℕ → TextWhat → Type 0
+  FailsToGoOn at p w = (h : Head) (colon : Bool) (values : List Value) (top : List Item) (frames : List Frame) → FailsBy at (st (behind_item h colon values) top frames) p w
+
+  -- quoted tokens join to bytes, and no further one stands behind them
+  pub record Joins (old : List ℕ) (from : ℕ) (bytes : List ℕ) (at : ℕ) : Type 0 where
+    pub leads : (h : Head) (slot : Slot) (place : ℕ) (top : List Item) (frames : List Frame) → Leads from (st (in_text h slot place old) top frames) at (st (in_text h slot place bytes) top frames)
+    pub ends : NoQuote (ahead tokens at)
+
+  -- all tokens, from the first on
+  abbrev pub ReadsAll : List Item → Type 0
+  ReadsAll items = run true end (map terminal_at tokens) begin ≡ Ok items
+
+  abbrev pub FailsAll : ℕ → TextWhat → Type 0
+  FailsAll p w = run true end (map terminal_at tokens) begin ≡ Err (fault p w)

@@ -121,7 +121,5 @@ pub fn comment_len(text: &[u8]) -> usize
     ensures value { result ≡ comment_len text.now }
     ensures within { result ≤ length text.now }
 {
-    text.iter()
-        .take_while(|byte| !is_line_feed(**byte))
-        .count()
+    text.iter().take_while(|byte| !is_line_feed(**byte)).count()
 }

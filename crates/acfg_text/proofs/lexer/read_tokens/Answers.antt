@@ -14,10 +14,11 @@ loop-at-preserved-in-White c = (omega arith, c.loop-at.invariant.1 ∙ ap (with_
 pub loop-at-preserved-in-Comment : goal.loop-at-preserved-in-Comment
 loop-at-preserved-in-Comment c =
     let rest : List ℕ = drop (c.loop-at.at + 1) c.args.source.now in
-    let len : c.comment_len.result ≡ comment_len rest = c.comment_len.ensures.value ∙ ap comment_len (tail_is (c.loop-at.at + 1) c.args.source.now) in
-    (omega (arith, c.comment_len.ensures.within, ap length (tail_is (c.loop-at.at + 1) c.args.source.now), length-drop (c.loop-at.at + 1) c.args.source.now),
-     c.loop-at.invariant.1 ∙ ap (with_front (map lexeme_of c.loop-at.found.items)) (lex_comment c.loop-at.at c.args.source.now c.loop-at-test.true (sym c.in-Comment.ensures)
-       ∙ ap (λ n. lex 0 (c.loop-at.at + (1 + n)) (drop (c.loop-at.at + (1 + n)) c.args.source.now)) (sym len)))
+    let len : c.comment_len.result ≡ comment_len rest = c.comment_len.ensures.value ∙ ap comment_len (tail_is (c.loop-at.at + 1) c.args.source.now) in (
+      omega (arith, c.comment_len.ensures.within, ap length (tail_is (c.loop-at.at + 1) c.args.source.now), length-drop (c.loop-at.at + 1) c.args.source.now),
+      c.loop-at.invariant.1 ∙ ap (with_front (map lexeme_of c.loop-at.found.items)) (lex_comment c.loop-at.at c.args.source.now c.loop-at-test.true (sym c.in-Comment.ensures)
+          ∙ ap (λ n. lex 0 (c.loop-at.at + (1 + n)) (drop (c.loop-at.at + (1 + n)) c.args.source.now)) (sym len)),
+    )
 
 pub returns-in_err-end-in-Token-clause-err : goal.returns-in_err-end-in-Token-clause-err
 returns-in_err-end-in-Token-clause-err c =
@@ -27,11 +28,12 @@ returns-in_err-end-in-Token-clause-err c =
 pub loop-at-preserved : goal.loop-at-preserved
 loop-at-preserved c =
     let step : lex 0 c.loop-at.at (drop c.loop-at.at c.args.source.now)
-        ≡ with_front (lexeme c.in-Token.kind c.loop-at.at (take (c.in_ok-end-in-Token.end - c.loop-at.at) (drop c.loop-at.at c.args.source.now)) ∷ []) (lex 0 c.in_ok-end-in-Token.end (drop c.in_ok-end-in-Token.end c.args.source.now))
-        = lex_found c.loop-at.at c.args.source.now c.loop-at-test.true c.in-Token.kind c.in_ok-end-in-Token.end c.in_ok-end-in-Token.ensures.within.0 c.in_ok-end-in-Token.ensures.within.1 (sym c.in-Token.ensures) c.in_ok-end-in-Token.ensures.ok in
-    (c.in_ok-end-in-Token.ensures.within.1,
-     c.loop-at.invariant.1 ∙ ap (with_front (map lexeme_of c.loop-at.found.items)) step ∙ found_more c.loop-at.found.items _ (lex 0 c.in_ok-end-in-Token.end (drop c.in_ok-end-in-Token.end c.args.source.now))
-     ∙ ap (λ l. with_front (map lexeme_of l) (lex 0 c.in_ok-end-in-Token.end (drop c.in_ok-end-in-Token.end c.args.source.now))) (sym c.in_ok-push-in-Token.ensures.items))
+    ≡ with_front (lexeme c.in-Token.kind c.loop-at.at (take (c.in_ok-end-in-Token.end - c.loop-at.at) (drop c.loop-at.at c.args.source.now)) ∷ []) (lex 0 c.in_ok-end-in-Token.end (drop c.in_ok-end-in-Token.end c.args.source.now))
+    = lex_found c.loop-at.at c.args.source.now c.loop-at-test.true c.in-Token.kind c.in_ok-end-in-Token.end c.in_ok-end-in-Token.ensures.within.0 c.in_ok-end-in-Token.ensures.within.1 (sym c.in-Token.ensures) c.in_ok-end-in-Token.ensures.ok in (
+      c.in_ok-end-in-Token.ensures.within.1,
+      c.loop-at.invariant.1 ∙ ap (with_front (map lexeme_of c.loop-at.found.items)) step ∙ found_more c.loop-at.found.items _ (lex 0 c.in_ok-end-in-Token.end (drop c.in_ok-end-in-Token.end c.args.source.now))
+          ∙ ap (λ l. with_front (map lexeme_of l) (lex 0 c.in_ok-end-in-Token.end (drop c.in_ok-end-in-Token.end c.args.source.now))) (sym c.in_ok-push-in-Token.ensures.items),
+    )
 
 pub returns-in-Nothing-clause-err : goal.returns-in-Nothing-clause-err
 returns-in-Nothing-clause-err c = c.loop-at.invariant.1 ∙ ap (with_front (map lexeme_of c.loop-at.found.items)) (lex_nothing c.loop-at.at c.args.source.now c.loop-at-test.true (sym c.in-Nothing.ensures))

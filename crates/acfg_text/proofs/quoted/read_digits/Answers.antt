@@ -20,7 +20,7 @@ pub loop-count-preserved : goal.loop-count-preserved
 loop-count-preserved c =
     let digit : digit_test c.args.base (get_or c.args.text.now c.loop-count.count 0) ≡ true = sym c.is_digit.ensures ∙ c.if-not-is_digit.false in
     let next : ReadSoFar c.args.base c.args.start c.args.most c.args.text.now (c.loop-count.count + 1) (c.loop-count.value * base_of c.args.base + digit_value (get_or c.args.text.now c.loop-count.count 0))
-        = read_next c.args.base c.args.start c.args.most c.args.text.now c.loop-count.count c.loop-count.value c.loop-count.invariant c.loop-count-test.true c.if-count-text.false digit in
+    = read_next c.args.base c.args.start c.args.most c.args.text.now c.loop-count.count c.loop-count.value c.loop-count.invariant c.loop-count-test.true c.if-count-text.false digit in
     rw (c.radix-radix.ensures.value, c.digit_value.ensures.value) next
 
 pub returns-then-count-text : goal.returns-then-count-text

@@ -23,9 +23,10 @@ pub overflow_add-at-in-Some-2 : goal.overflow_add-at-in-Some-2
 overflow_add-at-in-Some-2 c = omega (arith, room_behind c.args.quote c.loop-at.at c.args.text.now c.loop-at-test.true c.in-Some.meaning (escape_tail c.loop-at.at c.args.text.now _ c.in-Some.ensures))
 
 pub loop-at-preserved : goal.loop-at-preserved
-loop-at-preserved c =
-    (room_behind c.args.quote c.loop-at.at c.args.text.now c.loop-at-test.true c.in-Some.meaning (escape_tail c.loop-at.at c.args.text.now _ c.in-Some.ensures),
-     c.loop-at.invariant.1 ∙ scan_escape c.args.quote c.loop-at.at c.args.text.now c.loop-at-test.true c.in-Some.meaning (sym c.in-Backslash.ensures) (escape_tail c.loop-at.at c.args.text.now _ c.in-Some.ensures))
+loop-at-preserved c = (
+  room_behind c.args.quote c.loop-at.at c.args.text.now c.loop-at-test.true c.in-Some.meaning (escape_tail c.loop-at.at c.args.text.now _ c.in-Some.ensures),
+  c.loop-at.invariant.1 ∙ scan_escape c.args.quote c.loop-at.at c.args.text.now c.loop-at-test.true c.in-Some.meaning (sym c.in-Backslash.ensures) (escape_tail c.loop-at.at c.args.text.now _ c.in-Some.ensures),
+)
 
 pub returns-in-None-clause-value : goal.returns-in-None-clause-value
 returns-in-None-clause-value c = c.unknown_escape.ensures ∙ ap (λ l. unknown_escape (is_cut l) c.loop-at.at) (tail_is (c.loop-at.at + 1) c.args.text.now) ∙ sym (c.loop-at.invariant.1 ∙ scan_unknown c.args.quote c.loop-at.at c.args.text.now c.loop-at-test.true (sym c.in-Backslash.ensures) (escape_tail c.loop-at.at c.args.text.now _ c.in-None.ensures))

@@ -1,0 +1,110 @@
+-- Texts as wholes: one tree or one first fault.
+use Rattle.std.proofs.Common.{◌≡◌, ℕ, zero, suc, ◌+◌, ◌<◌, ◌⊎◌, inl, inr, Bool, true, false, List, [], ◌∷◌, ◌++◌, length, map, get_or, Result, Ok, Err, refl, sym, ap, ◌∙◌, subst, arith}
+use Rattle.std.specs.Prelude.{◌≤◌}
+use Rattle.std.specs.List.{All, list_all}
+use Rattle.std.specs.Str.{IsAscii}
+use Rattle.std.proofs.lemmas.Bool.Decides.{nat_tests}
+use Rattle.std.proofs.lemmas.Simd.{map-map}
+use Rattle.acfg_text.specs.declared.classes.Class.{Class}
+use Rattle.acfg_text.specs.declared.classes.Class.TheVariants as c
+use Rattle.acfg_text.specs.declared.token.Token.{Token}
+use Rattle.acfg_text.specs.declared.token.TokenKind.{TokenKind}
+use Rattle.acfg_text.specs.declared.token.TokenKind.TheVariants.{Word, Number, Quoted, Symbol}
+use Rattle.acfg_text.specs.declared.terminals.Seen.{Seen}
+use Rattle.acfg_text.specs.declared.tree.Tree.{Tree}
+use Rattle.acfg_text.specs.declared.tree.Item.{Item}
+use Rattle.acfg_text.specs.declared.fault.TextWhat.{TextWhat}
+use Rattle.acfg_text.specs.declared.fault.TextWhat.TheVariants.{Unexpected}
+use Rattle.acfg_text.specs.Trees.{tree}
+use Rattle.acfg_text.specs.Terminals.{Lexeme, lexeme_of, Terminal, terminal_of}
+use Rattle.acfg_text.specs.Grammar.{Derives}
+use Rattle.acfg_text.specs.TextFaults.{is_quoted, IsFirst, Rising}
+use Rattle.acfg_text.specs.Lexes.{Lexes, LexFault}
+use Rattle.acfg_text.specs.Spells.{Spells, GrammarFault, FirstFault}
+use Rattle.acfg_text.specs.Machine.{Frame, at_field, st, Fault, fault, step_at, finish, run, begin}
+use Rattle.acfg_text.specs.Reading.{ahead, terminal_at, seen_of, IsNext, NoField, ReadsFields, FailsFields, ReadsAll, FailsAll}
+use Rattle.acfg_text.specs.Scanning.{lex}
+use Rattle.acfg_text.proofs.Lexing.{lex_lexes, lex_faults, lexes_lex, faults_lex, one_lexes}
+use Rattle.acfg_text.proofs.Slices.{lexes_rising}
+use Rattle.acfg_text.proofs.Leading.{one_derived}
+use Rattle.acfg_text.proofs.Resting.{run_derives}
+use Rattle.acfg_text.proofs.Stopping.{apart, first_fault, one_first}
+use Rattle.acfg_text.proofs.Parts.{leads_step, fails_step}
+
+-- the reader's whole run
+pub all_read : (tokens : List Token) (end at : ℕ) (items : List Item) → ReadsFields tokens end 0 0 items at → ahead tokens at ≡ [] → ReadsAll tokens end items
+unfolding run
+all_read tokens end at items fields none = fields.leads [] refl ∙ ap (λ l. run true end l (st at_field items [])) none
+
+stray_end : (class : Class) (t : Terminal) (items : List Item) → (class ≡ c.Word → ⊥) → step_at true at_field class t items [] ≡ Err (fault t.place Unexpected)
+stray_end c.Word t items x = absurd (x refl)
+stray_end _ t items x = refl
+
+pub all_stray : (tokens : List Token) (end at : ℕ) (items : List Item) (t : Seen) → ReadsFields tokens end 0 0 items at → IsNext tokens at t → FailsAll tokens end t.place Unexpected
+all_stray tokens end at items t fields next =
+    let no_word : t.class ≡ c.Word → ⊥ = subst NoField next fields.ends in
+    fields.leads [] refl ∙ fails_step tokens end at t (st at_field items []) t.place Unexpected next (stray_end t.class (seen_of t) items no_word)
+
+pub all_fails : (tokens : List Token) (end p : ℕ) (w : TextWhat) → FailsFields tokens end 0 0 p w → FailsAll tokens end p w
+all_fails tokens end p w fails = fails [] refl
+
+-- what the tokens and their reading say of the text
+pub spells : (text : List ℕ) (found : List Token) (items : List Item) (read : Tree) → Lexes text (map lexeme_of found) → ReadsAll found (length text) items → read ≡ tree items (length text) → Spells text read
+spells text found items read lexes reads is =
+    record {
+      found = map lexeme_of found;
+      items = items;
+      lexes = lexes;
+      derives = run_derives (length text) (map terminal_of (map lexeme_of found)) items (ap (λ l. run true (length text) l begin) (map-map terminal_of lexeme_of found) ∙ reads);
+      is = is;
+    }
+
+pub refuses : (text : List ℕ) (found : List Token) (p : ℕ) (w : TextWhat) → Lexes text (map lexeme_of found) → FailsAll found (length text) p w → FirstFault text p w
+refuses text found p w lexes fails =
+    inr (record {
+      found = map lexeme_of found;
+      lexes = lexes;
+      first = first_fault (length text) (map terminal_of (map lexeme_of found)) (fault p w) (lexes_rising text (map lexeme_of found) lexes)
+          (ap (λ l. run true (length text) l begin) (map-map terminal_of lexeme_of found) ∙ fails);
+    })
+
+-- at most one
+pub one_read : (text : List ℕ) (read other : Tree) → Spells text read → Spells text other → read ≡ other
+one_read text read other a b =
+    let same : a.found ≡ b.found = one_lexes text a.found b.found a.lexes b.lexes in
+    let items : a.items ≡ b.items = one_derived (map terminal_of a.found) a.items b.items a.derives (subst (λ f. Derives (map terminal_of f) b.items) (sym same) b.derives) in
+    a.is ∙ ap (λ i. tree i (length text)) items ∙ sym b.is
+
+pub lex_apart : (text : List ℕ) (found : List Lexeme) (p : ℕ) (w : TextWhat) → Lexes text found → LexFault text p w → ⊥
+lex_apart text found p w lexes fails = let a : lex 0 0 text ≡ Ok found = lexes_lex text found lexes in let b : lex 0 0 text ≡ Err (fault p w) = faults_lex text p w fails in cc
+
+pub refused_apart : (text : List ℕ) (read : Tree) (p : ℕ) (w : TextWhat) → Spells text read → FirstFault text p w → ⊥
+refused_apart text read p w a (inl fails) = lex_apart text a.found p w a.lexes fails
+refused_apart text read p w a (inr g) =
+    let same : g.found ≡ a.found = one_lexes text g.found a.found g.lexes a.lexes in
+    apart (length text) (map terminal_of a.found) a.items p w (lexes_rising text a.found a.lexes) a.derives (subst (λ f. IsFirst (map terminal_of f) (length text) p w) same g.first).is
+
+pub one_refused : (text : List ℕ) (p q : ℕ) (w u : TextWhat) → FirstFault text p w → FirstFault text q u → (p ≡ q) × (w ≡ u)
+one_refused text p q w u (inl a) (inl b) =
+    let x : lex 0 0 text ≡ Err (fault p w) = faults_lex text p w a in let y : lex 0 0 text ≡ Err (fault q u) = faults_lex text q u b in
+    let same : fault p w ≡ fault q u = cc in (ap (λ f. f.place) same, ap (λ f. f.what) same)
+one_refused text p q w u (inl a) (inr b) = absurd (lex_apart text b.found p w b.lexes a)
+one_refused text p q w u (inr a) (inl b) = absurd (lex_apart text a.found q u a.lexes b)
+one_refused text p q w u (inr a) (inr b) =
+    let same : b.found ≡ a.found = one_lexes text b.found a.found b.lexes a.lexes in
+    one_first (length text) (map terminal_of a.found) p q w u (lexes_rising text a.found a.lexes) a.first (subst (λ f. IsFirst (map terminal_of f) (length text) q u) same b.first)
+
+-- there is one
+abbrev Outcome : List ℕ → Type 0
+Outcome text = ((read : Tree) × Spells text read) ⊎ ((p : ℕ) × (w : TextWhat) × FirstFault text p w)
+
+outcome_of : (text : List ℕ) (found : List Lexeme) → Lexes text found → (r : Result (List Item) Fault) → run true (length text) (map terminal_of found) begin ≡ r → Outcome text
+outcome_of text found lexes (Ok items) e = inl (tree items (length text), record { found = found; items = items; lexes = lexes; derives = run_derives (length text) (map terminal_of found) items e; is = refl })
+outcome_of text found lexes (Err f) e = inr (f.place, f.what, inr (record { found = found; lexes = lexes; first = first_fault (length text) (map terminal_of found) f (lexes_rising text found lexes) e }))
+
+pub some_outcome : (text : List ℕ) → Outcome text
+some_outcome text = go (lex 0 0 text) refl
+  where
+    go : (r : Result (List Lexeme) Fault) → lex 0 0 text ≡ r → Outcome text
+    go (Ok found) e = let lexes : Lexes text found = lex_lexes text found e in outcome_of text found lexes (run true (length text) (map terminal_of found) begin) refl
+    go (Err f) e = inr (f.place, f.what, inl (lex_faults text f e))
