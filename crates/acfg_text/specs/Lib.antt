@@ -6,6 +6,7 @@ pub mod Lexes
 pub mod Machine
 pub mod Meanings
 pub mod Plain
+pub mod Printed
 pub mod Reader
 pub mod Reading
 pub mod Scanning
