@@ -1,6 +1,6 @@
 -- A derivation leads the machine from the state before it to the state behind it.
-use Rattle.std.proofs.Common.{◌≡◌, ℕ, zero, suc, ◌+◌, ◌<◌, Bool, true, false, List, [], ◌∷◌, ◌++◌, length, Option, Some, None, Result, Ok, Err, refl, sym, ap, ◌∙◌, subst, arith, append_assoc, append-nil}
-use Rattle.std.specs.Prelude.{◌≤◌, ◌&&◌, not, nat_le, if◌then◌else◌}
+use Rattle.std.proofs.Common.{◌≡◌, ℕ, ◌+◌, ◌<◌, Bool, true, false, List, [], ◌∷◌, ◌++◌, length, Ok, refl, sym, ap, ◌∙◌, arith, append_assoc, append-nil}
+use Rattle.std.specs.Prelude.{◌&&◌, not, nat_le}
 use Rattle.std.proofs.lemmas.Bool.Decides.{nat_tests}
 use Rattle.std.specs.Str.{is_utf8}
 use Rattle.acfg_text.specs.declared.classes.Class.{Class}
@@ -10,12 +10,12 @@ use Rattle.acfg_text.specs.declared.classes.Bracket.TheVariants.{Curly, Angle}
 use Rattle.acfg_text.specs.declared.tree.Item.{Item}
 use Rattle.acfg_text.specs.declared.tree.Value.{Value}
 use Rattle.acfg_text.specs.declared.tree.Value.TheVariants as v
-use Rattle.acfg_text.specs.Trees.{item, tree}
+use Rattle.acfg_text.specs.Trees.{item}
 use Rattle.acfg_text.specs.Terminals.{Terminal, terminal}
 use Rattle.acfg_text.specs.Escapes.{spelled}
 use Rattle.acfg_text.specs.Grammar.{Room, free, left, Enters, enters_free, enters_left, Takes, Texts, last_text, more_texts, Scalar, word_is, number_is, text_is, Ends, bare_end, comma_end, semicolon_end, Fields, no_fields, more_fields, Field, field_is, Held, holds_scalar, holds_message, holds_colon_message, holds_list, holds_colon_list, Message, message_is, Listed, empty_list, filled_list, Elements, last_element, more_elements, Element, scalar_element, message_element, Derives, HasForm}
 use Rattle.acfg_text.specs.TextFaults.{is_quoted}
-use Rattle.acfg_text.specs.Machine.{Head, head_of, Slot, single, among, Frame, Mode, at_field, behind_field, behind_name, behind_colon, in_list, at_item, behind_item, in_text, State, st, Fault, fault, plain_item, listed_item, settle, close_list, opened, same, frame, closed_by, closed, on_behind_field, on_behind_item, on_text, plain, refused, text_fault, depth_fault, step_by, step, step_at, done, finish_by, finish, carry, run, begin, Waits, waits_name, waits_colon, waits_list, waits_item, Lists, lists_name, lists_colon}
+use Rattle.acfg_text.specs.Machine.{Head, Slot, single, among, Frame, Mode, at_field, behind_field, behind_name, in_text, st, settle, close_list, opened, same, frame, step, step_at, carry, run, begin, Waits, waits_name, waits_colon, waits_list, waits_item, Lists, lists_name, lists_colon}
 
 -- the room that is left beside so many open messages
 abbrev pub Fits : Bool → Room → List Frame → Type 0

@@ -1,8 +1,8 @@
 -- Tokens as a function give exactly the tokens, or the first fault, that the definitions have.
-use Rattle.std.proofs.Common.{◌≡◌, ℕ, zero, suc, ◌+◌, ◌-◌, ◌<◌, ◌⊎◌, inl, inr, Bool, true, false, List, [], ◌∷◌, ◌++◌, length, take, drop, map, Option, Some, None, Result, Ok, Err, refl, sym, ap, ◌∙◌, subst, arith, append_assoc, append-nil, cond, length-drop, length-append}
+use Rattle.std.proofs.Common.{◌≡◌, ℕ, zero, suc, ◌+◌, ◌<◌, Bool, true, false, List, [], ◌∷◌, ◌++◌, length, take, drop, Result, Ok, Err, refl, sym, ap, ◌∙◌, subst, arith, append_assoc, append-nil, cond, length-drop, length-append}
 use Rattle.std.specs.Prelude.{◌≤◌, ◌&&◌, ◌||◌, not}
 use Rattle.std.specs.List.{list_any, list_all, prefix_len}
-use Rattle.std.proofs.lemmas.List.{drop-drop, take-append-drop, length-take, drop-append-le}
+use Rattle.std.proofs.lemmas.List.{take-append-drop, length-take}
 use Rattle.std.proofs.lemmas.List.Sums.{prefix_len-le-length}
 use Rattle.std.proofs.Math.Seq.{drop-append_seam, take-append_seam}
 use Rattle.acfg_text.specs.declared.token.TokenKind.{TokenKind}
@@ -12,9 +12,9 @@ use Rattle.acfg_text.specs.declared.bytes.Lead.TheVariants.{White, Comment, Toke
 use Rattle.acfg_text.specs.declared.quoted.Scan.{Scan}
 use Rattle.acfg_text.specs.declared.quoted.Scan.TheVariants.{Closed, Bad, Open}
 use Rattle.acfg_text.specs.declared.fault.TextWhat.{TextWhat}
-use Rattle.acfg_text.specs.declared.fault.TextWhat.TheVariants.{BadByte, BadEscape, OpenString}
+use Rattle.acfg_text.specs.declared.fault.TextWhat.TheVariants.{BadEscape, OpenString}
 use Rattle.acfg_text.specs.Terminals.{Lexeme, lexeme}
-use Rattle.acfg_text.specs.Lexes.{is_word, is_number, is_line_feed, lead, Closes, GoesOn, IsToken, IsLongest, EndsLine, Lexed, here, blank, comment, token, NeverCloses, BadAt, BreaksAt, bad_byte, open_string, bad_escape, LexFault, Lexes}
+use Rattle.acfg_text.specs.Lexes.{is_word, is_number, is_line_feed, lead, Closes, IsToken, IsLongest, EndsLine, Lexed, here, blank, comment, token, BreaksAt, bad_byte, open_string, bad_escape, LexFault, Lexes}
 use Rattle.acfg_text.specs.Machine.{Fault, fault}
 use Rattle.acfg_text.specs.Scanning.{scan, quoted_len, token_len, comment_len, with_front, lex_token, lex_by, lex}
 use Rattle.acfg_text.proofs.Quotes.{one_close, closes_scan, closes_more, never_scan, bad_scan, Scanned, scan_is, Split, closes_split}

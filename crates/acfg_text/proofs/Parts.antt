@@ -1,6 +1,6 @@
 -- What the reader's parts read and where they fail: one lemma for each way out.
-use Rattle.std.proofs.Common.{◌≡◌, ℕ, zero, suc, ◌+◌, ◌-◌, ◌<◌, Bool, true, false, List, [], ◌∷◌, ◌++◌, length, Option, Some, None, Result, Ok, Err, refl, sym, ap, ◌∙◌, subst, arith, append_assoc, append-nil}
-use Rattle.std.specs.Prelude.{◌≤◌, ◌&&◌, not, nat_le}
+use Rattle.std.proofs.Common.{◌≡◌, ℕ, ◌+◌, ◌<◌, Bool, true, false, List, [], ◌∷◌, ◌++◌, length, None, Ok, Err, refl, sym, ap, ◌∙◌, subst, arith}
+use Rattle.std.specs.Prelude.{◌≤◌, ◌&&◌, nat_le}
 use Rattle.std.proofs.lemmas.Bool.Decides.{nat_tests}
 use Rattle.std.specs.Str.{is_utf8, IsUtf8}
 use Rattle.std.proofs.lemmas.Str.{IsUtf8-from_is_utf8}
@@ -18,8 +18,7 @@ use Rattle.acfg_text.specs.declared.fault.TextWhat.TheVariants.{Unexpected, TooD
 use Rattle.acfg_text.specs.Trees.{item, tree}
 use Rattle.acfg_text.specs.Terminals.{Terminal, terminal}
 use Rattle.acfg_text.specs.Escapes.{spelled}
-use Rattle.acfg_text.specs.TextFaults.{is_quoted}
-use Rattle.acfg_text.specs.Machine.{Head, head_of, Slot, single, among, Frame, frame, Mode, at_field, behind_field, behind_name, behind_colon, in_list, at_item, behind_item, in_text, State, st, Fault, fault, plain_item, listed_item, settle, close_list, opened, same, closed_by, closed, on_field, on_behind_field, on_behind_item, plain, refused, text_fault, depth_fault, step_by, step, step_at, done, finish_by, finish, carry, run, Waits, waits_name, waits_colon, waits_list, waits_item}
+use Rattle.acfg_text.specs.Machine.{Head, Slot, single, among, Frame, frame, Mode, at_field, behind_field, behind_name, behind_colon, in_list, at_item, behind_item, in_text, State, st, fault, settle, close_list, opened, same, closed_by, refused, step_by, step, step_at, finish, carry, run, Waits, waits_name, waits_colon, waits_list, waits_item}
 use Rattle.acfg_text.specs.Reading.{ahead, seen_of, IsNext, NoField, NoQuote, ClosesList, ClosesNoList, NoClosing, IsNoOpening, SkipsEnd, Leads, FailsBy, ReadsFields, FailsFields, ReadsField, FailsField, ReadsHeld, FailsHeld, ReadsColon, FailsColon, ReadsList, FailsList, ReadsValue, FailsValue, ReadsElement, FailsElement, FailsScalar, ClosesBy, FailsToClose, list_state, GoesOn, FailsToGoOn, Joins}
 use Rattle.acfg_text.proofs.Leading.{Unquoted, same_itself, open_step, settled_run}
 

@@ -1,8 +1,8 @@
 -- Quoted tokens: the scan of a text finds exactly the end or the fault that the definitions have.
-use Rattle.std.proofs.Common.{◌≡◌, ℕ, zero, suc, ◌+◌, ◌-◌, ◌<◌, ◌⊎◌, inl, inr, Bool, true, false, List, [], ◌∷◌, ◌++◌, length, take, drop, Option, Some, None, Result, Ok, Err, refl, sym, ap, ◌∙◌, subst, arith, append_assoc, append-nil, cond, length-drop, length-append}
+use Rattle.std.proofs.Common.{◌≡◌, ℕ, zero, suc, ◌+◌, ◌-◌, ◌<◌, Bool, true, false, List, [], ◌∷◌, ◌++◌, length, take, drop, Some, None, refl, sym, ap, ◌∙◌, subst, arith, append_assoc, cond, length-drop, length-append}
 use Rattle.std.proofs.lemmas.List.{drop-drop, take-append-drop, length-take, drop-append-le}
 use Rattle.std.proofs.Math.Seq.{drop-append_seam}
-use Rattle.std.specs.Prelude.{◌≤◌, ◌&&◌, ◌==◌, not, nat_le, if◌then◌else◌, encode_utf8}
+use Rattle.std.specs.Prelude.{◌≤◌, ◌&&◌, ◌==◌, nat_le, encode_utf8}
 use Rattle.std.proofs.lemmas.Bool.Decides.{nat_tests}
 use Rattle.acfg_text.specs.declared.quoted.Within.{Within}
 use Rattle.acfg_text.specs.declared.quoted.Within.TheVariants.{Close, Line, Backslash, Plain}

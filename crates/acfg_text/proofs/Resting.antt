@@ -1,6 +1,6 @@
 -- What may still come in a state of the machine, in terms of the grammar: a run that ends well is a derivation.
-use Rattle.std.proofs.Common.{◌≡◌, ℕ, zero, suc, ◌+◌, ◌-◌, ◌<◌, Bool, true, false, List, [], ◌∷◌, ◌++◌, length, Option, Some, None, Result, Ok, Err, refl, sym, ap, ◌∙◌, subst, arith, append_assoc, append-nil}
-use Rattle.std.specs.Prelude.{◌≤◌, ◌&&◌, not, nat_le, if◌then◌else◌}
+use Rattle.std.proofs.Common.{◌≡◌, ℕ, suc, ◌-◌, ◌<◌, Bool, true, false, List, [], ◌∷◌, ◌++◌, length, Option, Some, None, Result, Ok, Err, refl, sym, ◌∙◌, subst, arith, append_assoc, append-nil}
+use Rattle.std.specs.Prelude.{◌&&◌, not, nat_le}
 use Rattle.std.proofs.lemmas.Bool.Decides.{nat_tests}
 use Rattle.std.specs.Str.{is_utf8}
 use Rattle.acfg_text.specs.declared.classes.Class.{Class}
@@ -14,9 +14,9 @@ use Rattle.acfg_text.specs.declared.fault.TextWhat.TheVariants.{TooDeep, BadUtf8
 use Rattle.acfg_text.specs.Trees.{item, tree}
 use Rattle.acfg_text.specs.Terminals.{Terminal, terminal}
 use Rattle.acfg_text.specs.Escapes.{spelled}
-use Rattle.acfg_text.specs.Grammar.{Room, free, left, Enters, enters_free, enters_left, Takes, Texts, last_text, more_texts, Scalar, word_is, number_is, text_is, Ends, bare_end, comma_end, semicolon_end, Fields, no_fields, more_fields, Field, field_is, Held, holds_scalar, holds_message, holds_colon_message, holds_list, holds_colon_list, Message, message_is, Listed, empty_list, filled_list, Elements, last_element, more_elements, Element, scalar_element, message_element, Derives, HasForm}
+use Rattle.acfg_text.specs.Grammar.{Room, free, left, Enters, enters_free, enters_left, Takes, Texts, last_text, more_texts, Scalar, word_is, number_is, text_is, Ends, bare_end, comma_end, semicolon_end, Fields, no_fields, more_fields, field_is, Held, holds_scalar, holds_message, holds_colon_message, holds_list, holds_colon_list, Message, message_is, Listed, empty_list, filled_list, Elements, last_element, more_elements, Element, scalar_element, message_element, Derives, HasForm}
 use Rattle.acfg_text.specs.TextFaults.{is_quoted}
-use Rattle.acfg_text.specs.Machine.{Head, head_of, Slot, single, among, Frame, Mode, at_field, behind_field, behind_name, behind_colon, in_list, at_item, behind_item, in_text, State, st, Fault, fault, plain_item, listed_item, settle, close_list, opened, same, frame, closed_by, closed, on_field, on_behind_field, on_behind_item, on_text, plain, refused, text_fault, depth_fault, step_by, step, step_at, done, finish_by, finish, carry, run, begin}
+use Rattle.acfg_text.specs.Machine.{Head, head_of, Slot, single, among, Frame, Mode, at_field, behind_field, behind_name, behind_colon, in_list, at_item, behind_item, in_text, State, st, Fault, plain_item, listed_item, settle, opened, same, frame, closed_by, on_text, refused, text_fault, depth_fault, step_by, step, step_at, finish_by, finish, carry, run, begin}
 use Rattle.acfg_text.proofs.Leading.{Accepts, settles}
 
 abbrev room_of : Bool → List Frame → Room

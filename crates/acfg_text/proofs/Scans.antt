@@ -1,12 +1,11 @@
 -- One byte of a quoted text at a time: what the scan and the value behind it are.
-use Rattle.std.proofs.Common.{◌≡◌, ℕ, zero, suc, ◌+◌, ◌-◌, ◌<◌, List, [], ◌∷◌, ◌++◌, length, take, drop, get_or, Option, Some, None, refl, sym, ap, ◌∙◌, subst, arith, append_assoc, append-nil, add-one, drop-cons, length-drop}
+use Rattle.std.proofs.Common.{◌≡◌, ℕ, zero, suc, ◌+◌, ◌-◌, ◌<◌, List, [], ◌∷◌, ◌++◌, length, take, drop, get_or, Some, None, refl, sym, ap, ◌∙◌, arith, add-one, drop-cons, length-drop}
 use Rattle.std.specs.Prelude.{◌≤◌, option_map}
 use Rattle.std.proofs.lemmas.List.{drop-drop}
 use Rattle.std.proofs.Math.ListN.{drop_of_length-le}
 use Rattle.std.proofs.Math.Seq.{take-length}
-use Rattle.acfg_text.specs.declared.quoted.Within.{Within}
 use Rattle.acfg_text.specs.declared.quoted.Within.TheVariants.{Close, Line, Backslash, Plain}
-use Rattle.acfg_text.specs.declared.quoted.Scan.TheVariants.{Closed, Bad, Open}
+use Rattle.acfg_text.specs.declared.quoted.Scan.TheVariants.{Closed, Open}
 use Rattle.acfg_text.specs.declared.quoted.Meaning.{Meaning}
 use Rattle.acfg_text.specs.Escapes.{Escaped, escape, within, value_behind}
 use Rattle.acfg_text.specs.Meanings.{bytes_of, meaning_of}

@@ -1,11 +1,10 @@
 -- The tokens of a text are its slices, and their places rise.
-use Rattle.std.proofs.Common.{◌≡◌, ℕ, zero, suc, ◌+◌, ◌-◌, ◌<◌, Bool, true, List, [], ◌∷◌, ◌++◌, length, take, drop, map, refl, sym, ap, ◌∙◌, subst, arith, length-append}
-use Rattle.std.specs.Prelude.{◌≤◌, slice_range}
-use Rattle.std.specs.List.{AllByRecursion}
+use Rattle.std.proofs.Common.{◌≡◌, ℕ, suc, ◌+◌, ◌<◌, List, [], ◌∷◌, ◌++◌, length, take, drop, map, refl, sym, ap, ◌∙◌, arith}
+use Rattle.std.specs.Prelude.{◌≤◌}
 use Rattle.std.proofs.lemmas.List.{drop-drop}
 use Rattle.std.proofs.Math.Seq.{drop-append_seam, take-append_seam}
 use Rattle.acfg_text.specs.declared.token.TokenKind.{TokenKind}
-use Rattle.acfg_text.specs.Terminals.{Lexeme, lexeme, terminal_of}
+use Rattle.acfg_text.specs.Terminals.{Lexeme, terminal_of}
 use Rattle.acfg_text.specs.TextFaults.{Rising}
 use Rattle.acfg_text.specs.Lexes.{IsToken, Lexed, here, blank, comment, token, Lexes, AreSlices}
 

@@ -1,26 +1,25 @@
 -- Where a strict run ends, and why: its fault is the first of the tokens.
-use Rattle.std.proofs.Common.{◌≡◌, ℕ, zero, suc, ◌+◌, ◌-◌, ◌<◌, ◌⊎◌, inl, inr, Bool, true, false, List, [], ◌∷◌, ◌++◌, length, Option, Some, None, Result, Ok, Err, refl, sym, ap, ◌∙◌, subst, arith, append_assoc, append-nil}
-use Rattle.std.specs.Prelude.{◌≤◌, ◌&&◌, not, nat_le}
+use Rattle.std.proofs.Common.{◌≡◌, ℕ, ◌+◌, ◌<◌, ◌⊎◌, inl, inr, Bool, true, false, List, [], ◌∷◌, ◌++◌, length, Option, Some, None, Result, Ok, Err, refl, sym, ap, ◌∙◌, subst, arith, append_assoc, append-nil}
+use Rattle.std.specs.Prelude.{◌≤◌, not, nat_le}
 use Rattle.std.proofs.lemmas.Bool.Decides.{nat_tests}
 use Rattle.std.specs.Str.{is_utf8}
 use Rattle.acfg_text.specs.declared.classes.Class.{Class}
 use Rattle.acfg_text.specs.declared.classes.Class.TheVariants as c
 use Rattle.acfg_text.specs.declared.classes.Bracket.{Bracket}
-use Rattle.acfg_text.specs.declared.classes.Bracket.TheVariants.{Curly, Angle}
 use Rattle.acfg_text.specs.declared.tree.Item.{Item}
 use Rattle.acfg_text.specs.declared.tree.Value.{Value}
 use Rattle.acfg_text.specs.declared.tree.Value.TheVariants as v
 use Rattle.acfg_text.specs.declared.fault.TextWhat.{TextWhat}
 use Rattle.acfg_text.specs.declared.fault.TextWhat.TheVariants.{Unexpected, TooDeep, BadUtf8}
-use Rattle.acfg_text.specs.Trees.{item, tree}
+use Rattle.acfg_text.specs.Trees.{tree}
 use Rattle.acfg_text.specs.Terminals.{Terminal, terminal}
 use Rattle.acfg_text.specs.Escapes.{spelled}
 use Rattle.acfg_text.specs.Grammar.{HasForm, Begins, Derives, Texts, last_text, more_texts}
 use Rattle.acfg_text.specs.TextFaults.{is_open, is_quoted, nest, nesting, EndsUnquoted, BeginsUnquoted, Faulty, stray, early, deep, bad_text, IsFirst, Rising}
-use Rattle.acfg_text.specs.Machine.{Head, Slot, single, among, Frame, Mode, at_field, behind_field, behind_name, behind_colon, in_list, at_item, behind_item, in_text, State, st, Fault, fault, plain_item, listed_item, settle, close_list, opened, same, frame, closed_by, closed, on_field, on_behind_field, on_name, on_colon, on_item, on_list, on_behind_item, on_text, plain, refused, text_fault, depth_fault, step_by, step, step_at, done, finish_by, finish, carry, run, walk, begin}
-use Rattle.acfg_text.proofs.Viable.{walk_append, run_append, walk_one, carried_ok, walk_begins, begins_walk}
+use Rattle.acfg_text.specs.Machine.{Head, Slot, single, among, Frame, Mode, at_field, behind_field, behind_name, behind_colon, in_list, at_item, behind_item, in_text, State, st, Fault, fault, plain_item, settle, same, closed_by, on_field, on_behind_field, on_name, on_colon, on_item, on_list, on_behind_item, on_text, plain, refused, text_fault, depth_fault, step_by, step, done, finish_by, finish, carry, run, walk, begin}
+use Rattle.acfg_text.proofs.Viable.{run_append, walk_one, carried_ok, walk_begins, begins_walk}
 use Rattle.acfg_text.proofs.Leading.{form_run, derives_run, first_text}
-use Rattle.acfg_text.proofs.Resting.{run_form, run_derives}
+use Rattle.acfg_text.proofs.Resting.{run_form}
 
 -- what a step makes of the mode and of the open messages
 abbrev is_text : Mode → Bool

@@ -1,18 +1,15 @@
 -- Tokens begin some form exactly where the machine reads them, of any depth and with texts of any bytes.
-use Rattle.std.proofs.Common.{◌≡◌, ℕ, zero, suc, ◌+◌, ◌<◌, Bool, true, false, List, [], ◌∷◌, ◌++◌, length, Option, Some, None, Result, Ok, Err, refl, sym, ap, ◌∙◌, subst, arith, append_assoc, append-nil}
-use Rattle.std.specs.Prelude.{◌≤◌, ◌&&◌, not}
+use Rattle.std.proofs.Common.{◌≡◌, ℕ, Bool, false, List, [], ◌∷◌, ◌++◌, Result, Ok, Err, refl, sym, ap, ◌∙◌}
 use Rattle.acfg_text.specs.declared.classes.Class.{Class}
 use Rattle.acfg_text.specs.declared.classes.Class.TheVariants as c
-use Rattle.acfg_text.specs.declared.classes.Bracket.{Bracket}
-use Rattle.acfg_text.specs.declared.classes.Bracket.TheVariants.{Curly, Angle}
+use Rattle.acfg_text.specs.declared.classes.Bracket.TheVariants.{Curly}
 use Rattle.acfg_text.specs.declared.tree.Item.{Item}
 use Rattle.acfg_text.specs.declared.tree.Value.{Value}
 use Rattle.acfg_text.specs.declared.tree.Value.TheVariants as v
-use Rattle.acfg_text.specs.Trees.{item, tree}
+use Rattle.acfg_text.specs.Trees.{tree}
 use Rattle.acfg_text.specs.Terminals.{Terminal, terminal}
-use Rattle.acfg_text.specs.Grammar.{HasForm, Begins}
-use Rattle.acfg_text.specs.TextFaults.{is_quoted}
-use Rattle.acfg_text.specs.Machine.{Head, Slot, single, among, Frame, Mode, at_field, behind_field, behind_name, behind_colon, in_list, at_item, behind_item, in_text, State, st, Fault, fault, plain_item, listed_item, settle, close_list, opened, same, frame, closed_by, closed, plain, refused, text_fault, depth_fault, step_by, step, step_at, done, finish_by, finish, carry, run, walk, begin}
+use Rattle.acfg_text.specs.Grammar.{Begins}
+use Rattle.acfg_text.specs.Machine.{Head, Slot, single, among, Frame, Mode, at_field, behind_field, behind_name, behind_colon, in_list, at_item, behind_item, in_text, State, st, Fault, plain_item, listed_item, settle, opened, frame, step, carry, run, walk, begin}
 use Rattle.acfg_text.proofs.Leading.{same_itself, form_run}
 use Rattle.acfg_text.proofs.Resting.{run_form}
 

@@ -1,15 +1,9 @@
 -- Texts as wholes: one tree or one first fault.
-use Rattle.std.proofs.Common.{◌≡◌, ℕ, zero, suc, ◌+◌, ◌<◌, ◌⊎◌, inl, inr, Bool, true, false, List, [], ◌∷◌, ◌++◌, length, map, get_or, Result, Ok, Err, refl, sym, ap, ◌∙◌, subst, arith}
-use Rattle.std.specs.Prelude.{◌≤◌}
-use Rattle.std.specs.List.{All, list_all}
-use Rattle.std.specs.Str.{IsAscii}
-use Rattle.std.proofs.lemmas.Bool.Decides.{nat_tests}
+use Rattle.std.proofs.Common.{◌≡◌, ℕ, ◌⊎◌, inl, inr, true, List, [], length, map, Result, Ok, Err, refl, sym, ap, ◌∙◌, subst}
 use Rattle.std.proofs.lemmas.Simd.{map-map}
 use Rattle.acfg_text.specs.declared.classes.Class.{Class}
 use Rattle.acfg_text.specs.declared.classes.Class.TheVariants as c
 use Rattle.acfg_text.specs.declared.token.Token.{Token}
-use Rattle.acfg_text.specs.declared.token.TokenKind.{TokenKind}
-use Rattle.acfg_text.specs.declared.token.TokenKind.TheVariants.{Word, Number, Quoted, Symbol}
 use Rattle.acfg_text.specs.declared.terminals.Seen.{Seen}
 use Rattle.acfg_text.specs.declared.tree.Tree.{Tree}
 use Rattle.acfg_text.specs.declared.tree.Item.{Item}
@@ -18,18 +12,18 @@ use Rattle.acfg_text.specs.declared.fault.TextWhat.TheVariants.{Unexpected}
 use Rattle.acfg_text.specs.Trees.{tree}
 use Rattle.acfg_text.specs.Terminals.{Lexeme, lexeme_of, Terminal, terminal_of}
 use Rattle.acfg_text.specs.Grammar.{Derives}
-use Rattle.acfg_text.specs.TextFaults.{is_quoted, IsFirst, Rising}
+use Rattle.acfg_text.specs.TextFaults.{IsFirst}
 use Rattle.acfg_text.specs.Lexes.{Lexes, LexFault}
-use Rattle.acfg_text.specs.Spells.{Spells, GrammarFault, FirstFault}
-use Rattle.acfg_text.specs.Machine.{Frame, at_field, st, Fault, fault, step_at, finish, run, begin}
-use Rattle.acfg_text.specs.Reading.{ahead, terminal_at, seen_of, IsNext, NoField, ReadsFields, FailsFields, ReadsAll, FailsAll}
+use Rattle.acfg_text.specs.Spells.{Spells, FirstFault}
+use Rattle.acfg_text.specs.Machine.{at_field, st, Fault, fault, step_at, run, begin}
+use Rattle.acfg_text.specs.Reading.{ahead, seen_of, IsNext, NoField, ReadsFields, FailsFields, ReadsAll, FailsAll}
 use Rattle.acfg_text.specs.Scanning.{lex}
 use Rattle.acfg_text.proofs.Lexing.{lex_lexes, lex_faults, lexes_lex, faults_lex, one_lexes}
 use Rattle.acfg_text.proofs.Slices.{lexes_rising}
 use Rattle.acfg_text.proofs.Leading.{one_derived}
 use Rattle.acfg_text.proofs.Resting.{run_derives}
 use Rattle.acfg_text.proofs.Stopping.{apart, first_fault, one_first}
-use Rattle.acfg_text.proofs.Parts.{leads_step, fails_step}
+use Rattle.acfg_text.proofs.Parts.{fails_step}
 
 -- the reader's whole run
 pub all_read : (tokens : List Token) (end at : ℕ) (items : List Item) → ReadsFields tokens end 0 0 items at → ahead tokens at ≡ [] → ReadsAll tokens end items

@@ -1,5 +1,5 @@
 -- Tokens: the Protocol Buffers text format, "Lexical elements". A text is blanks, comments and tokens in order, none of which could be longer.
-use Rattle.std.specs.Prelude.{◌≡◌, ℕ, ◌+◌, ◌<◌, ◌==◌, true, false, drop, if◌then◌else◌, ◌&&◌, ◌||◌, nat_le, Bool, List, [], ◌∷◌, ◌++◌, length, Option, Some, None, codes, slice_range}
+use Rattle.std.specs.Prelude.{◌≡◌, ℕ, ◌+◌, ◌<◌, ◌==◌, true, false, drop, if◌then◌else◌, ◌&&◌, ◌||◌, nat_le, Bool, List, [], ◌∷◌, ◌++◌, length, Some, None, codes, slice_range}
 use Rattle.std.specs.List.{list_any, list_all, AllByRecursion}
 use Rattle.acfg_text.specs.declared.token.TokenKind.{TokenKind}
 use Rattle.acfg_text.specs.declared.token.TokenKind.TheVariants.{Word, Number, Quoted, Symbol}

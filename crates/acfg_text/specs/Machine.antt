@@ -1,5 +1,5 @@
 -- Words of the reader's private contracts and of proofs alone: a machine that reads the grammar's terminals one by one.
-use Rattle.std.specs.Prelude.{◌≡◌, ℕ, ◌+◌, ◌≤◌, if◌then◌else◌, ◌&&◌, not, nat_le, Bool, true, false, List, [], ◌∷◌, ◌++◌, length, Option, Some, None, Result, Ok, Err}
+use Rattle.std.specs.Prelude.{ℕ, ◌&&◌, not, nat_le, Bool, true, false, List, [], ◌∷◌, ◌++◌, length, Option, Some, None, Result, Ok, Err}
 use Rattle.std.specs.Str.{is_utf8}
 use Rattle.acfg_text.specs.declared.classes.Bracket.{Bracket}
 use Rattle.acfg_text.specs.declared.classes.Bracket.TheVariants.{Curly, Angle}
@@ -11,7 +11,7 @@ use Rattle.acfg_text.specs.declared.tree.Value.TheVariants as v
 use Rattle.acfg_text.specs.declared.fault.TextWhat.{TextWhat}
 use Rattle.acfg_text.specs.declared.fault.TextWhat.TheVariants.{Unexpected, TooDeep, BadUtf8}
 use Rattle.acfg_text.specs.Trees.{item, tree}
-use Rattle.acfg_text.specs.Terminals.{Terminal, terminal}
+use Rattle.acfg_text.specs.Terminals.{Terminal}
 use Rattle.acfg_text.specs.Escapes.{spelled}
 use Rattle.acfg_text.specs.TextFaults.{is_quoted}
 

@@ -1,5 +1,5 @@
 -- A tree as one line of text, in this project's own layout of the Protocol Buffers text format.
-use Rattle.std.specs.Prelude.{ℕ, ◌+◌, ◌*◌, ◌/◌, ◌%◌, ◌==◌, if◌then◌else◌, ◌&&◌, nat_le, Bool, true, false, List, [], ◌∷◌, ◌++◌, map, codes}
+use Rattle.std.specs.Prelude.{ℕ, ◌+◌, ◌/◌, ◌%◌, ◌==◌, if◌then◌else◌, ◌&&◌, nat_le, Bool, true, false, List, [], ◌∷◌, ◌++◌, map, codes}
 use Rattle.std.specs.List.{flat_map}
 use Rattle.acfg_text.specs.declared.tree.Tree.{Tree, fold-Tree}
 use Rattle.acfg_text.specs.declared.tree.Item.{Item, fold-Item}

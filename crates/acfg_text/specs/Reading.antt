@@ -1,5 +1,5 @@
 -- Words of the reader's private contracts and of proofs alone: what its parts read, as runs of the machine.
-use Rattle.std.specs.Prelude.{◌≡◌, ℕ, ◌+◌, Bool, true, false, List, [], ◌∷◌, ◌++◌, length, map, drop, Result, Ok, Err}
+use Rattle.std.specs.Prelude.{◌≡◌, ℕ, ◌+◌, Bool, true, false, List, [], ◌∷◌, ◌++◌, length, map, drop, Ok, Err}
 use Rattle.std.specs.List.{All}
 use Rattle.std.specs.Str.{IsAscii}
 use Rattle.acfg_text.specs.declared.classes.Class.{Class}
@@ -12,9 +12,9 @@ use Rattle.acfg_text.specs.declared.tree.Value.TheVariants as v
 use Rattle.acfg_text.specs.declared.tree.Value.{Value}
 use Rattle.acfg_text.specs.declared.fault.TextWhat.{TextWhat}
 use Rattle.acfg_text.specs.Trees.{item, tree}
-use Rattle.acfg_text.specs.Terminals.{Lexeme, lexeme_of, Terminal, terminal, terminal_of}
+use Rattle.acfg_text.specs.Terminals.{lexeme_of, Terminal, terminal, terminal_of}
 use Rattle.acfg_text.specs.TextFaults.{is_quoted}
-use Rattle.acfg_text.specs.Machine.{Head, Slot, single, among, Frame, Mode, at_field, behind_field, behind_name, behind_colon, in_list, at_item, behind_item, in_text, State, st, Fault, fault, settle, close_list, run, begin, Waits, Lists}
+use Rattle.acfg_text.specs.Machine.{Head, Slot, among, Frame, Mode, at_field, behind_field, behind_name, behind_colon, in_list, at_item, behind_item, in_text, State, st, fault, settle, close_list, run, begin, Waits}
 
 abbrev pub terminal_at : Token → Terminal
 terminal_at token = terminal_of (lexeme_of token)

@@ -1,5 +1,5 @@
 -- The faults of the grammar, apart from any reader, and the first of them.
-use Rattle.std.specs.Prelude.{◌≡◌, ℕ, ◌+◌, ◌-◌, ◌<◌, ◌≤◌, Bool, true, false, List, [], ◌∷◌, ◌++◌, length}
+use Rattle.std.specs.Prelude.{◌≡◌, ℕ, ◌+◌, ◌-◌, ◌<◌, ◌≤◌, Bool, true, false, List, [], ◌∷◌, ◌++◌}
 use Rattle.std.specs.Str.{is_utf8}
 use Rattle.acfg_text.specs.declared.classes.Class.{Class}
 use Rattle.acfg_text.specs.declared.classes.Class.TheVariants as c

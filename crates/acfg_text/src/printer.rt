@@ -4,8 +4,8 @@ ghost use Rattle.std.specs.Prelude.{◌≡◌, ◌++◌, ◌∷◌, [], map, IfO
 ghost use Rattle.std.specs.List.{flat_map};
 ghost use Rattle.acfg_text.specs.Printed.{printed_byte, quoted, held, braced, bracketed, separated, shown, printed_item, printed_fields, printed};
 
-use acfg_base::OutOfMemory;
 use crate::tree::{Item, Tree, Value};
+use acfg_base::OutOfMemory;
 use std::alloc::{AllocError, Global};
 
 /// A tree as one line without a line feed: fields with one space between each two, `name: V`, `name { FIELDS }` or,

@@ -1,11 +1,11 @@
-use Rattle.std.proofs.Common.{◌≡◌, ◌∙◌, ◌+◌, ◌∷◌, [], sym, ap, subst, refl, arith, true, false, IsTrue}
+use Rattle.std.proofs.Common.{◌∙◌, ◌+◌, sym, ap, subst, refl, arith, true, false}
 use Rattle.std.proofs.lemmas.Result.{err_from_is_err_and}
 use Rattle.acfg_text.specs.Trees.{item, tree}
 use Rattle.acfg_text.specs.Reading.{ahead, ReadsHeld, ReadsColon, ReadsList, ReadsElement, FailsElement}
 use Rattle.acfg_text.specs.Machine.{at_item, st, run}
 use Rattle.acfg_text.specs.declared.fault.TextWhat.TheVariants.{Unexpected}
 use Rattle.acfg_text.proofs.Failures.{at_weaker}
-use Rattle.acfg_text.proofs.Parts.{field_read, field_fails, held_colon, held_colon_fails, held_message, held_message_fails, held_list, held_list_fails, held_none, held_end, colon_value, colon_message_fails, colon_scalar_fails, colon_list, colon_list_fails, colon_end, no_opening, list_empty, list_begins, list_more, list_item_fails, list_goes_fails, element_value, element_message_fails, element_scalar_fails, element_none, element_list, element_end, message_deep, message_read, message_fields_fail, message_close_fails}
+use Rattle.acfg_text.proofs.Parts.{field_read, field_fails, held_colon, held_colon_fails, held_message, held_message_fails, held_list, held_list_fails, held_none, held_end, colon_value, colon_message_fails, colon_scalar_fails, colon_list, colon_list_fails, colon_end, no_opening, list_empty, list_begins, element_value, element_message_fails, element_none, element_list, element_end, message_deep, message_read, message_fields_fail, message_close_fails}
 use Rattle.acfg_text.proofs.grammar.+fields.Goals as goal
 
 pub read_element-returns-in_default-clause-err : goal.read_element-returns-in_default-clause-err

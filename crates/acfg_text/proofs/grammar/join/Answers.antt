@@ -1,4 +1,4 @@
-use Rattle.std.proofs.Common.{◌≡◌, ◌+◌, true, ap, sym, ◌∙◌, arith}
+use Rattle.std.proofs.Common.{◌+◌, true, ap, sym, ◌∙◌, arith}
 use Rattle.acfg_text.specs.Machine.{in_text, st, run}
 use Rattle.acfg_text.specs.Escapes.{spelled}
 use Rattle.acfg_text.specs.Reading.{ahead}

@@ -1,7 +1,7 @@
 use Rattle.std.proofs.lemmas.Result.{err_from_is_err_and}
 use Rattle.acfg_text.proofs.Scans.{tail_is}
 use Rattle.std.proofs.Common.{◌≡◌, ℕ, ◌+◌, ◌-◌, List, length, length-drop, ◌∙◌, ap, sym, arith, map, take, drop, ◌∷◌, [], Ok, append-nil}
-use Rattle.acfg_text.specs.Scanning.{with_front, lex, token_len, comment_len}
+use Rattle.acfg_text.specs.Scanning.{with_front, lex, comment_len}
 use Rattle.acfg_text.specs.Terminals.{lexeme, lexeme_of}
 use Rattle.acfg_text.specs.Machine.{fault}
 use Rattle.acfg_text.proofs.Steps.{lex_white, lex_comment, lex_nothing, lex_failed, lex_found, found_more, lex_end}

@@ -1,7 +1,6 @@
-use Rattle.std.proofs.Common.{◌≡◌, map, sym, ap}
+use Rattle.std.proofs.Common.{map}
 use Rattle.std.proofs.lemmas.Result.{err_from_is_err_and}
 use Rattle.acfg_text.specs.Terminals.{lexeme_of}
-use Rattle.acfg_text.specs.Lexes.{Lexes}
 use Rattle.acfg_text.proofs.Lexing.{lex_lexes, lex_faults}
 use Rattle.acfg_text.proofs.Slices.{lexes_slices, lexes_rising}
 use Rattle.acfg_text.proofs.Failures.{at_weaker}

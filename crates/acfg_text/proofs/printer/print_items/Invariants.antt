@@ -1,4 +1,4 @@
-use Rattle.std.proofs.Common.{◌≡◌, ◌++◌, ◌∷◌, [], take, map}
+use Rattle.std.proofs.Common.{◌≡◌, ◌++◌, ◌∷◌, take, map}
 use Rattle.std.specs.List.{flat_map}
 use Rattle.acfg_text.specs.Printed.{printed_item}
 use Rattle.acfg_text.proofs.printer.print_items.Given as goal

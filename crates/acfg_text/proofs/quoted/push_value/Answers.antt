@@ -1,7 +1,7 @@
-use Rattle.std.proofs.Common.{◌≡◌, ◌+◌, ◌≤◌, ◌++◌, length, drop, Some, None, sym, ap, ◌∙◌, arith, append_assoc}
+use Rattle.std.proofs.Common.{◌≡◌, ◌+◌, ◌++◌, drop, sym, ap, ◌∙◌, arith, append_assoc}
 use Rattle.acfg_text.specs.Escapes.{value_behind}
 use Rattle.acfg_text.specs.Meanings.{bytes_of}
-use Rattle.acfg_text.proofs.Scans.{escape_tail, tail_is, value_escape, room_behind}
+use Rattle.acfg_text.proofs.Scans.{escape_tail, value_escape, room_behind}
 use Rattle.acfg_text.proofs.quoted.push_value.Goals as goal
 
 pub overflow_add-at-in-Some : goal.overflow_add-at-in-Some

@@ -1,4 +1,4 @@
-use Rattle.std.proofs.Common.{◌≡◌, ℕ, ◌+◌, ◌*◌, ◌<◌, ◌^◌, true, false, get_or, sym, ◌∙◌, subst, arith}
+use Rattle.std.proofs.Common.{◌≡◌, ◌+◌, ◌*◌, ◌<◌, ◌^◌, true, false, get_or, sym, ◌∙◌, subst, arith}
 use Rattle.acfg_text.specs.Escapes.{digit_value}
 use Rattle.acfg_text.specs.Meanings.{digit_test, base_of}
 use Rattle.acfg_text.proofs.Numbers.{ReadSoFar, digit_small, fits_next, read_next, IsRead, done_short, done_digit}

@@ -1,6 +1,4 @@
-use Rattle.std.proofs.Common.{◌≡◌, ◌+◌, ◌-◌, ◌*◌, ◌^◌, ◌<◌, ◌≤◌, ◌++◌, length, take, drop}
-use Rattle.acfg_text.specs.Escapes.{digits, number}
-use Rattle.acfg_text.specs.Meanings.{digit_test, base_of}
+use Rattle.std.proofs.Common.{◌-◌}
 use Rattle.acfg_text.proofs.Numbers.{ReadSoFar}
 use Rattle.acfg_text.proofs.quoted.read_digits.Given as goal
 

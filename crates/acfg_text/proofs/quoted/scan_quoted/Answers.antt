@@ -1,10 +1,6 @@
-use Rattle.std.proofs.Common.{◌≡◌, ◌+◌, ◌≤◌, length, drop, Some, None, sym, ap, ◌∙◌, arith}
-use Rattle.std.proofs.Math.ListN.{drop_of_length-le}
-use Rattle.acfg_text.specs.Escapes.{escape, within}
-use Rattle.acfg_text.specs.Meanings.{meaning_of}
-use Rattle.acfg_text.specs.Scanning.{scan, is_cut, unknown_escape}
-use Rattle.acfg_text.specs.declared.quoted.Within.TheVariants.{Close, Line, Backslash, Plain}
-use Rattle.acfg_text.proofs.Scans.{escape_tail, tail_is, some_escape, none_escape, scan_close, scan_line, scan_plain, scan_escape, scan_unknown, scan_end, room_behind}
+use Rattle.std.proofs.Common.{◌+◌, sym, ap, ◌∙◌, arith}
+use Rattle.acfg_text.specs.Scanning.{is_cut, unknown_escape}
+use Rattle.acfg_text.proofs.Scans.{escape_tail, tail_is, scan_close, scan_line, scan_plain, scan_escape, scan_unknown, scan_end, room_behind}
 use Rattle.acfg_text.proofs.quoted.scan_quoted.Goals as goal
 
 pub returns-in-Close-clause-value : goal.returns-in-Close-clause-value
