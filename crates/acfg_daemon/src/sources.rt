@@ -61,7 +61,12 @@ fn path_in(alloc: Global, dir: &str) -> Result<String, AllocError>
 }
 
 // What the bytes at a path load as for a container.
-fn load_bytes(alloc: Global, container: &ContainerName, path: &str, bytes: &[u8]) -> Result<Loaded, OutOfMemory>
+fn load_bytes(
+    alloc: Global,
+    container: &ContainerName,
+    path: &str,
+    bytes: &[u8],
+) -> Result<Loaded, OutOfMemory>
     ensures loaded { IfOk result (BytesLoad container.now path.now bytes.now) }
     ensures fits { IfOk result Fits }
 {
@@ -88,7 +93,13 @@ fn load_declared(
     let Some(package) = PackageName::parse(alloc, declarations.package())? else {
         return Ok(Loaded::Bad);
     };
-    match compile(alloc, &package, container, slice::from_ref(declarations), &[]) {
+    match compile(
+        alloc,
+        &package,
+        container,
+        slice::from_ref(declarations),
+        &[],
+    ) {
         Ok(flags) => {
             let release = flags.release(alloc)?;
             Ok(Loaded::Release(Sha256::digest(bytes), release))

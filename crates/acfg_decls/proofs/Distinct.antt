@@ -94,7 +94,7 @@ no_key_twice flags sorted (key, more) =
     let high : two.1 < length flags = omega (arith, two.3, count) in
     let low : two.0 < length flags = omega (arith, two.2, high) in
     let at : (i : ℕ) → i < length flags → eq_by_cmp key_cmp key (key_of (get_or (map entry_of flags) i blank_entry)) ≡ true → key ≡ ((get_or flags i blank).package, (get_or flags i blank).name) =
-        λ i within same. key_exact key _ (Equal_of _ same) ∙ ap key_of (get_or-map entry_of flags i blank blank_entry within) in
+    λ i within same. key_exact key _ (Equal_of _ same) ∙ ap key_of (get_or-map entry_of flags i blank blank_entry within) in
     let one = at two.0 low (two.4 blank_entry) in
     let other = at two.1 high (two.5 blank_entry) in
     let name : full_name (get_or flags two.0 blank) ≡ full_name (get_or flags two.1 blank) = ap (λ (k : List ℕ × List ℕ). k.0 ++ dot ∷ k.1) (sym one ∙ other) in

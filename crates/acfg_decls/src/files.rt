@@ -27,7 +27,11 @@ const DEPTH: usize = 3;
 /// The text's first fault, else the first of a walk over its messages in text order, depth first: an unknown field, one
 /// that is given twice or as a list where it stands once, a value of another form, and at a message's end a missing
 /// field.
-pub fn read_declarations(alloc: Global, source: &str, bytes: &[u8]) -> Result<Declarations, DeclFault>
+pub fn read_declarations(
+    alloc: Global,
+    source: &str,
+    bytes: &[u8],
+) -> Result<Declarations, DeclFault>
     ensures ok { IfOk result (Declares source.now bytes.now) }
     ensures err { IfErr result (λ fault. IfAt fault (Refuses Message.FlagDeclarations bytes.now)) }
 {

@@ -10,7 +10,9 @@ ghost use Rattle.acfg_decls.specs.Releases.{entry_of, kind_of, release};
 ghost use Rattle.acfg_decls.specs.Flags.{AreFlags, AreNoFlags, IsLawful, full_name, SomeStepDown};
 
 use crate::order::compare_joined;
-use acfg_base::{ContainerName, Entry, Kind, Name, OutOfMemory, PackageName, Release, Sequence, Text};
+use acfg_base::{
+    ContainerName, Entry, Kind, Name, OutOfMemory, PackageName, Release, Sequence, Text,
+};
 use std::alloc::{AllocError, Global};
 use std::cmp::Ordering;
 use std::marker::Model;

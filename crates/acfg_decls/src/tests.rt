@@ -1,6 +1,9 @@
 //! Declarations and values compiled, in each of their spellings.
 
-use crate::{CompileFault, DeclFault, DeclWhat, compile, compile_own, read_container, read_declarations, read_values};
+use crate::{
+    CompileFault, DeclFault, DeclWhat, compile, compile_own, read_container, read_declarations,
+    read_values,
+};
 use acfg_base::{ContainerName, PackageName};
 use acfg_text::TextWhat;
 use std::test::Fail;
@@ -27,9 +30,15 @@ fn values_set_flags_in_order(rt: HostRuntime) -> Result<(), Fail> {
         panic!(rt; "not two flags");
     };
     assert_eq!(rt; a.name.as_str(), "a");
-    assert_eq!(rt; (a.enabled, a.writable, a.trace.as_slice().len()), (false, false, 1));
+    assert_eq!(rt;
+        (a.enabled, a.writable, a.trace.as_slice().len()),
+        (false, false, 1)
+    );
     assert_eq!(rt; z.name.as_str(), "z");
-    assert_eq!(rt; (z.enabled, z.writable, z.trace.as_slice().len()), (true, true, 3));
+    assert_eq!(rt;
+        (z.enabled, z.writable, z.trace.as_slice().len()),
+        (true, true, 3)
+    );
     assert_eq!(rt; flags.release(alloc)?.len(), 2);
     Ok(())
 }
@@ -55,14 +64,20 @@ fn a_bool_has_its_spellings(rt: HostRuntime) -> Result<(), Fail> {
         ("\"true\"", None),
     ];
     for (spelling, fixed) in table {
-        let text = format!(in alloc; "package: \"com.a\" container: \"c\" flag {{ name: \"f\" namespace: \"n\" description: \"d\" bug: \"1\" is_fixed_read_only: {spelling} }}")?;
+        let text = format!(in alloc;
+            "package: \"com.a\" container: \"c\" flag {{ name: \"f\" namespace: \"n\" description: \"d\" bug: \"1\" is_fixed_read_only: {spelling} }}"
+        )?;
         match (read_declarations(alloc, "flags", text.as_bytes()), fixed) {
             (Ok(declarations), Some(fixed)) => {
                 for flag in compile_own(alloc, &declarations)?.list() {
                     assert_eq!(rt; flag.fixed, fixed, "{spelling}");
                 }
             }
-            (Err(fault), None) => assert_eq!(rt; fault, DeclFault::At(90, DeclWhat::BadScalar), "{spelling}"),
+            (Err(fault), None) => assert_eq!(rt;
+                fault,
+                DeclFault::At(90, DeclWhat::BadScalar),
+                "{spelling}"
+            ),
             _ => panic!(rt; "{spelling}"),
         }
     }
@@ -74,12 +89,24 @@ fn faults_have_their_places(rt: HostRuntime) -> Result<(), Fail> {
     let alloc = rt.alloc();
     let table = [
         ("", 0, DeclWhat::MissingField),
-        ("package: \"com.a\" # x\n!", 21, DeclWhat::Text(TextWhat::BadByte)),
+        (
+            "package: \"com.a\" # x\n!",
+            21,
+            DeclWhat::Text(TextWhat::BadByte),
+        ),
         ("package: \"com.a\" flags: 1", 17, DeclWhat::UnknownField),
-        ("package: \"com.a\" package: \"com.a\"", 17, DeclWhat::TwiceGiven),
+        (
+            "package: \"com.a\" package: \"com.a\"",
+            17,
+            DeclWhat::TwiceGiven,
+        ),
         ("package: [\"com.a\"]", 0, DeclWhat::TwiceGiven),
         ("package: com", 0, DeclWhat::BadScalar),
-        ("package: \"com.a\" flag { name: \"f\" }", 34, DeclWhat::MissingField),
+        (
+            "package: \"com.a\" flag { name: \"f\" }",
+            34,
+            DeclWhat::MissingField,
+        ),
     ];
     for (text, place, what) in table {
         match read_declarations(alloc, "flags", text.as_bytes()) {

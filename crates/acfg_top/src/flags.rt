@@ -46,13 +46,22 @@ fn listed(alloc: Global, file: &str, bytes: &[u8]) -> Result<Told, Stop>
 {
     match read_declarations(alloc, file, bytes) {
         Ok(declarations) => compiled(alloc, file, bytes, &declarations),
-        Err(DeclFault::At(place, what)) => Ok(refused(alloc, file, Refusal::Declarations(place, what))?),
+        Err(DeclFault::At(place, what)) => Ok(refused(
+            alloc,
+            file,
+            Refusal::Declarations(place, what),
+        )?),
         Err(DeclFault::OutOfMemory) => Err(Stop::OutOfMemory),
     }
 }
 
 // The flags of declarations that were read of these bytes.
-fn compiled(alloc: Global, file: &str, bytes: &[u8], declarations: &Declarations) -> Result<Told, Stop>
+fn compiled(
+    alloc: Global,
+    file: &str,
+    bytes: &[u8],
+    declarations: &Declarations,
+) -> Result<Told, Stop>
     requires { Declares file.now bytes.now declarations.now }
     ensures told { IfOk result (λ told. (outcome : Outcome)
         × FlagsGives file.now (Some bytes.now) outcome × IsOf outcome told) }
@@ -63,7 +72,11 @@ fn compiled(alloc: Global, file: &str, bytes: &[u8], declarations: &Declarations
             ending: Ending::Done,
             text: listing(alloc, flags.list())?,
         }),
-        Err(CompileFault::In(_, place, what)) => Ok(refused(alloc, file, Refusal::Declarations(place, what))?),
+        Err(CompileFault::In(_, place, what)) => Ok(refused(
+            alloc,
+            file,
+            Refusal::Declarations(place, what),
+        )?),
         Err(CompileFault::OutOfMemory) => Err(Stop::OutOfMemory),
     }
 }
@@ -87,7 +100,10 @@ fn push_line(text: &mut String, flag: &Flag) -> Result<(), AllocError>
     let container = flag.container.as_str();
     let permission = permission_name(flag.writable);
     let state = state_name(flag.enabled);
-    write!(text, "{package}.{name} [{container}]: {permission} + {state}\n")
+    write!(
+        text,
+        "{package}.{name} [{container}]: {permission} + {state}\n"
+    )
 }
 
 fn permission_name(writable: bool) -> &'static str

@@ -74,7 +74,11 @@ fn flags_are_listed_or_refused(rt: HostRuntime) -> Result<(), Fail> {
             0,
             "com.android.intro.new_page [system]: READ_ONLY + DISABLED\n",
         ),
-        ("package: \"com.a\" flags: 1", 2, "refused FILE: unknown-field at 17\n"),
+        (
+            "package: \"com.a\" flags: 1",
+            2,
+            "refused FILE: unknown-field at 17\n",
+        ),
         (
             "a{a{a{a{a{a{a{a{a{a{a{a{a{a{a{a{a{a{a{a{a{a{a{a{a{a{a{a{a{a{a{a{a{",
             2,

@@ -7,20 +7,20 @@ use Rattle.acfg_top.proofs.flags.compiled.Goals as goal
 
 pub returns-in_ok-listing-in-Ok-clause-told : goal.returns-in_ok-listing-in-Ok-clause-told
 returns-in_ok-listing-in-Ok-clause-told c =
-    let flags = c.list.result.now in
-    ( Done (flat_map flag_line flags) []
-    , inl (c.args.declarations.now, flags, c.requires, rw (c.list.ensures.all) c.in-Ok.ensures.ok, refl)
-    , record { ending = refl; text = c.in_ok-listing-in-Ok.ensures; nothing = refl }
+    let flags = c.list.result.now in (
+      Done (flat_map flag_line flags) [],
+      inl (c.args.declarations.now, flags, c.requires, rw (c.list.ensures.all) c.in-Ok.ensures.ok, refl),
+      record { ending = refl; text = c.in_ok-listing-in-Ok.ensures; nothing = refl },
     )
 
 pub returns-in_ok-refused-in-Err-In-clause-told : goal.returns-in_ok-refused-in-Err-In-clause-told
-returns-in_ok-refused-in-Err-In-clause-told c =
-    ( Refused c.args.file.now (fault_words c.in-Err-In.place c.in-Err-In.what)
-    , inr
-        ( c.in-Err-In.place
-        , c.in-Err-In.what
-        , inr (c.args.declarations.now, c.in-Err-In.field-0-0, c.requires, subst (λ fault. IfIn fault (FailsOwn c.args.declarations.now)) c.in-Err-In.field-0-is c.in-Err-In.ensures.err)
-        , refl
-        )
-    , c.in_ok-refused-in-Err-In.ensures
-    )
+returns-in_ok-refused-in-Err-In-clause-told c = (
+  Refused c.args.file.now (fault_words c.in-Err-In.place c.in-Err-In.what),
+  inr (
+    c.in-Err-In.place,
+    c.in-Err-In.what,
+    inr (c.args.declarations.now, c.in-Err-In.field-0-0, c.requires, subst (λ fault. IfIn fault (FailsOwn c.args.declarations.now)) c.in-Err-In.field-0-is c.in-Err-In.ensures.err),
+    refl,
+  ),
+  c.in_ok-refused-in-Err-In.ensures,
+)

@@ -7,8 +7,8 @@ use Rattle.acfg_top.specs.Outcome.{Refused}
 use Rattle.acfg_top.proofs.flags.listed.Goals as goal
 
 pub returns-in_ok-refused-in-Err-At-clause-told : goal.returns-in_ok-refused-in-Err-At-clause-told
-returns-in_ok-refused-in-Err-At-clause-told c =
-    ( Refused c.args.file.now (fault_words c.in-Err-At.place c.in-Err-At.what)
-    , inr (c.in-Err-At.place, c.in-Err-At.what, inl (subst (λ fault. IfAt fault (Refuses FlagDeclarations c.args.bytes.now)) c.in-Err-At.field-0-is c.in-Err-At.ensures.err), refl)
-    , c.in_ok-refused-in-Err-At.ensures
-    )
+returns-in_ok-refused-in-Err-At-clause-told c = (
+  Refused c.args.file.now (fault_words c.in-Err-At.place c.in-Err-At.what),
+  inr (c.in-Err-At.place, c.in-Err-At.what, inl (subst (λ fault. IfAt fault (Refuses FlagDeclarations c.args.bytes.now)) c.in-Err-At.field-0-is c.in-Err-At.ensures.err), refl),
+  c.in_ok-refused-in-Err-At.ensures,
+)
