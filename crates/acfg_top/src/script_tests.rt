@@ -58,9 +58,14 @@ fn scripts_are_answered_line_by_line(rt: HostRuntime) -> Result<(), Fail> {
             "7 err 10 files-disagree\n7 updated ed70a4ebe97858ca8ec19f7d432bb65aee32ed9c5806d1ac7b040f24231cc044 1\n7 unchanged\n",
         ),
         (
-            "package: \"com.a\" # x",
+            "package: \"com.a\" ! x",
             "1 update c rel1\n2 update c rel2\n",
             "1 err 9 bad-image\n2 err 8 missing-file\n",
+        ),
+        (
+            "package: \"com.a\" # x",
+            "1 update c rel1\n2 update d rel1\n",
+            "1 updated f52c1185e9e1e2535b8dd58d70d0b7f2fbd865aa5c13ce604a8826a0d957e2c1 0\n2 updated f52c1185e9e1e2535b8dd58d70d0b7f2fbd865aa5c13ce604a8826a0d957e2c1 0\n",
         ),
         (
             OWN,
