@@ -1,5 +1,5 @@
 -- Flags that a map finds by their names are compiled flags once they are sorted.
-use Rattle.std.proofs.Common.{◌≡◌, ℕ, zero, suc, ◌+◌, ◌<◌, Bool, true, false, cond, List, [], ◌∷◌, ◌++◌, length, map, get_or, count_by, Some, Bor, refl, sym, ap, ◌∙◌, subst, inl, inr, arith}
+use Rattle.std.proofs.Common.{◌≡◌, ℕ, zero, suc, ◌+◌, ◌<◌, Bool, true, false, cond, List, [], ◌∷◌, ◌++◌, length, map, get_or, count_by, IsPermutation, Some, Bor, refl, sym, ap, ◌∙◌, subst, inl, inr, arith}
 use Rattle.std.specs.Prelude.{All}
 use Rattle.std.specs.BTreeMap.{BTreeMap}
 use Rattle.std.specs.Ordering.{nat_cmp, eq_by_cmp}
@@ -11,7 +11,7 @@ use Rattle.std.proofs.lemmas.Slice.Eq.{bytes_eq-Decides}
 use Rattle.std.specs.Ordering.{is_eq}
 use Rattle.std.specs.Cmp.{tied_itself}
 use Rattle.std.specs.Cmp.Lexicographic.{nat_list_cmp_total}
-use Rattle.std.proofs.lemmas.List.Sorted.{IsPermutation-refl}
+use Rattle.std.proofs.lemmas.List.Sorted.{Contains-permutation, IsPermutation-refl, IsPermutation-sym, sum_by-IsPermutation}
 use Rattle.acfg_base.specs.declared.releases.Entry.{Entry}
 use Rattle.acfg_base.specs.Places.{AreInOrder}
 use Rattle.acfg_base.specs.Release.{HasTwins, key_cmp, key_of}
@@ -82,6 +82,15 @@ distinct «package» container values declared flags places made finds lawful (i
     sym here ∙ ap (at places) (get_or-map (λ flag. flag.name) flags two.0 blank [] low ∙ one ∙ sym (get_or-map (λ flag. flag.name) flags two.1 blank [] two.3)) ∙ there in
     let places_alike : two.0 ≡ two.1 = cc in
     omega (arith, two.2, places_alike)
+
+-- nor does another order of flags make a list that is none into one
+pub no_flags_back : (xs ys : List Flag) → IsPermutation xs ys → AreNoFlags ys → AreNoFlags xs
+no_flags_back xs ys moved (inl (name, more)) =
+    let counted = sum_by-IsPermutation (λ flag. cond (eq_by_cmp (slice_cmp nat_cmp) name (full_name flag)) 1 0) xs ys moved in
+    inl (name, omega (arith, more, counted))
+no_flags_back xs ys moved (inr (k, flag, within, is, unlawful)) =
+    let there = Contains-permutation ys xs flag (IsPermutation-sym xs ys moved) (k, within, is) in
+    inr (there.0, flag, there.1, there.2, unlawful)
 
 blank_entry : Entry
 blank_entry = entry_of blank

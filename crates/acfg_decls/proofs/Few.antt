@@ -15,11 +15,11 @@ use Rattle.acfg_decls.specs.declared.declared.DeclarationsFile.{DeclarationsFile
 use Rattle.acfg_decls.specs.declared.declared.ValuesFile.{ValuesFile}
 use Rattle.acfg_decls.specs.Compile.{Compiles, Holds, Test, declarations_tests, declared, flag_of, flag_tests, file_tests, header_tests, most_flags, names_of, own_tests, sourced, tests_behind, New, Room}
 
-holds_behind : {X : Type 0} (P : X → Type 0) (front rest : List X) → AllByRecursion P (front ++ rest) → AllByRecursion P rest
+pub holds_behind : {X : Type 0} (P : X → Type 0) (front rest : List X) → AllByRecursion P (front ++ rest) → AllByRecursion P rest
 holds_behind P [] rest holds = holds
 holds_behind P (x ∷ front) rest holds = holds_behind P front rest holds.1
 
-holds_in_front : {X : Type 0} (P : X → Type 0) (front rest : List X) → AllByRecursion P (front ++ rest) → AllByRecursion P front
+pub holds_in_front : {X : Type 0} (P : X → Type 0) (front rest : List X) → AllByRecursion P (front ++ rest) → AllByRecursion P front
 holds_in_front P [] rest holds = tt
 holds_in_front P (x ∷ front) rest holds = (holds.0, holds_in_front P front rest holds.1)
 

@@ -1,9 +1,11 @@
 mod Applied
 mod Blank
 mod Distinct
+pub mod Exists
 pub mod Few
 mod Numbered
 mod Fronts
+mod Moved
 mod Named
 pub mod OneAnswer
 mod System

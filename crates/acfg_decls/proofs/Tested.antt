@@ -22,6 +22,11 @@ pub holds_append : (tests more : List Test) → AllByRecursion Holds tests → A
 holds_append [] more passed rest = rest
 holds_append (test ∷ tests) more passed rest = (passed.0, holds_append tests more passed.1 rest)
 
+-- the same of the tests of files
+pub all_hold : (front rest : List (List Test)) → AllByRecursion (AllByRecursion Holds) front → AllByRecursion (AllByRecursion Holds) rest → AllByRecursion (AllByRecursion Holds) (front ++ rest)
+all_hold [] rest passed more = more
+all_hold (tests ∷ front) rest passed more = (passed.0, all_hold front rest passed.1 more)
+
 -- What was tested of these tests passed: they fail and hold as what is left of them does.
 pub record Passed (rest whole : List Test) : Type 0 where
   pub fails : (place : ℕ) (fault : DeclWhat) → FirstFails rest place fault → FirstFails whole place fault

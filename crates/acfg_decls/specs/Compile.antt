@@ -1,5 +1,7 @@
 -- Compiling, as AOSP aconfig does it: which flags declarations and values make, and which of their tests fails first.
-use Rattle.std.specs.Prelude.{◌≡◌, ℕ, ◌+◌, ◌<◌, ◌==◌, Bool, true, false, not, IsTrue, List, [], ◌∷◌, ◌++◌, length, map, filter, Any, Contains, IsPermutation, MatchOption, ◌⊎◌, Option, None, Some, if◌then◌else◌, ◌&&◌, codes}
+use Rattle.std.specs.Prelude.{◌≡◌, ℕ, ◌+◌, ◌<◌, ◌==◌, Bool, true, false, not, IsTrue, List, [], ◌∷◌, ◌++◌, length, map}
+use Rattle.std.specs.Prelude.{filter, Any, Contains, IsPermutation, MatchOption, ◌⊎◌, Option, None, Some, if◌then◌else◌}
+use Rattle.std.specs.Prelude.{◌&&◌, codes}
 use Rattle.std.specs.List.{flat_map, AllByRecursion}
 use Rattle.std.specs.Str.{bytes_eq}
 use Rattle.acfg_base.specs.Names.{IsName, IsPackage, IsContainer}
@@ -68,7 +70,8 @@ flag_with «package» container declared more =
 
 -- the flag that a declaration makes with these values
 abbrev pub flag_of : List ℕ → List ℕ → List (List ℕ × FlagValue) → List ℕ × DeclaredFlag → Flag
-flag_of «package» container values declared = flag_with «package» container declared (points «package» declared.1.name.text values)
+flag_of «package» container values declared =
+    flag_with «package» container declared (points «package» declared.1.name.text values)
 
 -- the declared flags, each with the source of its file
 abbrev pub declared : List DeclarationsFile → List (List ℕ × DeclaredFlag)
@@ -175,7 +178,8 @@ container_asked asked (Some container) = OfContainer asked container ∷ []
 -- a declarations file's package and container
 abbrev pub header_tests : List ℕ → List ℕ → DeclarationsFile → List Test
 header_tests «package» container file =
-    (Named Package file.package ∷ container_named file.container) ++ (OfPackage «package» file.package ∷ container_asked container file.container)
+    (Named Package file.package ∷ container_named file.container)
+    ++ (OfPackage «package» file.package ∷ container_asked container file.container)
 
 -- the tests of each declarations file, behind flags of these names
 abbrev pub declarations_tests : List ℕ → List ℕ → List (List ℕ) → List DeclarationsFile → List (List Test)
@@ -185,7 +189,8 @@ declarations_tests «package» container earlier (file ∷ files) =
     ∷ declarations_tests «package» container (earlier ++ names_of file.flags) files
 
 abbrev pub value_tests : List ℕ → List (List ℕ × DeclaredFlag) → FlagValue → List Test
-value_tests «package» flags value = Named Package value.package ∷ Named Name value.name ∷ Free «package» flags value ∷ []
+value_tests «package» flags value =
+    Named Package value.package ∷ Named Name value.name ∷ Free «package» flags value ∷ []
 
 -- the tests of a values file, over the declared flags
 abbrev pub file_tests : List ℕ → List (List ℕ × DeclaredFlag) → ValuesFile → List Test
@@ -196,23 +201,27 @@ abbrev pub all_tests : List ℕ → List ℕ → List DeclarationsFile → List 
 all_tests «package» container declarations values =
     declarations_tests «package» container [] declarations ++ map (file_tests «package» (declared declarations)) values
 
--- of the files' tests, numbered from a first file on, the first one that fails is in this file and has this place and fault
+-- of the files' tests, numbered from a first file on, the first one that fails is in this file and has this place and
+-- fault
 abbrev pub FirstFailsIn : ℕ → List (List Test) → ℕ → ℕ → DeclWhat → Type 0
 FirstFailsIn number [] file place fault = ⊥
 FirstFailsIn number (tests ∷ more) file place fault =
-    ((file ≡ number) × FirstFails tests place fault) ⊎ (AllByRecursion Holds tests × FirstFailsIn (number + 1) more file place fault)
+    ((file ≡ number) × FirstFails tests place fault)
+    ⊎ (AllByRecursion Holds tests × FirstFailsIn (number + 1) more file place fault)
 
 -- ## What compiling answers
 
 -- Declarations and values compile to these flags, the declared ones in the order of compiled flags.
-pub record Compiles («package» container : List ℕ) (declarations : List DeclarationsFile) (values : List ValuesFile) (flags : List Flag) : Type 0 where
+pub record Compiles («package» container : List ℕ) (declarations : List DeclarationsFile) (values : List ValuesFile)
+    (flags : List Flag) : Type 0 where
   pub passed : AllByRecursion (AllByRecursion Holds) (all_tests «package» container declarations values)
   pub are : AreFlags flags
   pub same : IsPermutation (map (flag_of «package» container (flat_map sourced values)) (declared declarations)) flags
 
 -- The first fault of declarations and values: its file, place and kind.
 abbrev pub FailsToCompile : List ℕ → List ℕ → List DeclarationsFile → List ValuesFile → ℕ → ℕ → DeclWhat → Type 0
-FailsToCompile «package» container declarations values = FirstFailsIn 0 (all_tests «package» container declarations values)
+FailsToCompile «package» container declarations values =
+    FirstFailsIn 0 (all_tests «package» container declarations values)
 
 -- A file compiles to these flags with the package and the container that it names.
 pub record CompilesOwn (file : DeclarationsFile) (flags : List Flag) : Type 0 where

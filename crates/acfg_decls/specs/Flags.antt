@@ -1,5 +1,6 @@
 -- Compiled flags: their order, and what a list of them has to keep. AOSP aconfig, `aconfig_internal.proto`.
-use Rattle.std.specs.Prelude.{◌≡◌, ◌⊎◌, ℕ, ◌+◌, ◌<◌, List, ◌∷◌, ◌++◌, length, slice_index_or, count_by, IsTrue, false, All, Any}
+use Rattle.std.specs.Prelude.{◌≡◌, ◌⊎◌, ℕ, ◌+◌, ◌<◌, List, ◌∷◌, ◌++◌, length, slice_index_or, count_by, IsTrue, false}
+use Rattle.std.specs.Prelude.{All, Any}
 use Rattle.std.specs.declared.cmp.Ordering.{Ordering}
 use Rattle.std.specs.Ordering.{nat_cmp, eq_by_cmp, is_lt}
 use Rattle.std.specs.Cmp.Lexicographic.{slice_cmp}
@@ -33,4 +34,6 @@ AreNoFlags list = HasTwins list ⊎ Any (λ flag. IsLawful flag → ⊥) list
 
 -- some row's key isn't below the next one's
 abbrev pub SomeStepDown : {K Y : Type 0} → (K → K → Ordering) → (Y → K) → List Y → Type 0
-SomeStepDown {K} {Y} cmp key list = (k : ℕ) × (k + 1 < length list) × ((d : Y) → is_lt (cmp (key (slice_index_or list k d)) (key (slice_index_or list (k + 1) d))) ≡ false)
+SomeStepDown {K} {Y} cmp key list =
+    (k : ℕ) × (k + 1 < length list)
+    × ((d : Y) → is_lt (cmp (key (slice_index_or list k d)) (key (slice_index_or list (k + 1) d))) ≡ false)

@@ -1,7 +1,8 @@
 -- The messages of declarations and values, after AOSP aconfig's `aconfig.proto`: one table of their fields.
 use Rattle.std.specs.Prelude.{ℕ, List, [], ◌∷◌, codes}
 use Rattle.acfg_decls.specs.declared.messages.Message.{Message}
-use Rattle.acfg_decls.specs.declared.messages.Message.TheVariants.{FlagDeclarations, Flag, Metadata, FlagValues, FlagValue}
+use Rattle.acfg_decls.specs.declared.messages.Message.TheVariants.{FlagDeclarations, Flag, Metadata, FlagValues}
+use Rattle.acfg_decls.specs.declared.messages.Message.TheVariants.{FlagValue}
 use Rattle.acfg_decls.specs.declared.messages.Often.{Often}
 use Rattle.acfg_decls.specs.declared.messages.Often.TheVariants.{Required, Optional, Repeated}
 use Rattle.acfg_decls.specs.declared.messages.Words.{Words}

@@ -19,13 +19,17 @@ at places bytes = get_by (λ key. slice_cmp nat_cmp bytes key.now) places
 -- The map finds each of these names at its place, and nothing else.
 pub record Finds (places : BTreeMap (Bor (List ℕ)) ℕ) (names : List (List ℕ)) : Type 0 where
   pub there : (i : ℕ) → i < length names → at places (slice_index_or names i []) ≡ Some i
-  pub only : (bytes : List ℕ) (i : ℕ) → at places bytes ≡ Some i → (i < length names) × (slice_index_or names i [] ≡ bytes)
+  pub only : (bytes : List ℕ) (i : ℕ) → at places bytes ≡ Some i
+      → (i < length names) × (slice_index_or names i [] ≡ bytes)
 
 -- Wherever flags are those of some declarations and values of the package, this holds of these.
-abbrev pub WhereMade : List ℕ → List Flag → (List ℕ → List (List ℕ × FlagValue) → List (List ℕ × DeclaredFlag) → Type 0) → Type 0
+abbrev pub WhereMade : List ℕ → List Flag → (List ℕ → List (List ℕ × FlagValue) → List (List ℕ × DeclaredFlag) → Type 0)
+    → Type 0
 WhereMade «package» flags P =
-    (container : List ℕ) (set : List (List ℕ × FlagValue)) (declared : List (List ℕ × DeclaredFlag)) → flags ≡ map (flag_of «package» container set) declared → P container set declared
+    (container : List ℕ) (set : List (List ℕ × FlagValue)) (declared : List (List ℕ × DeclaredFlag))
+    → flags ≡ map (flag_of «package» container set) declared → P container set declared
 
 -- the flag with the point of a value behind its points
 abbrev pub with_point : Flag → List ℕ × FlagValue → Flag
-with_point flag value = record flag { enabled = value.1.enabled; writable = value.1.writable; trace = flag.trace ++ point_of value ∷ [] }
+with_point flag value =
+    record flag { enabled = value.1.enabled; writable = value.1.writable; trace = flag.trace ++ point_of value ∷ [] }

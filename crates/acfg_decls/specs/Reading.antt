@@ -1,5 +1,6 @@
 -- What files of declarations and values declare and set, and their first fault (AOSP aconfig's messages).
-use Rattle.std.specs.Prelude.{◌≡◌, ◌⊎◌, ℕ, ◌==◌, Bool, List, [], ◌∷◌, map, filter_map, Option, None, Some, unwrap_or, if◌then◌else◌, codes}
+use Rattle.std.specs.Prelude.{◌≡◌, ◌⊎◌, ℕ, ◌==◌, Bool, List, [], ◌∷◌, map, filter_map, Option, None, Some, unwrap_or}
+use Rattle.std.specs.Prelude.{if◌then◌else◌, codes}
 use Rattle.std.specs.List.{flat_map}
 use Rattle.std.specs.Option.{option_and_then}
 use Rattle.std.specs.Str.{bytes_eq}
@@ -33,7 +34,8 @@ use Rattle.acfg_decls.specs.Walk.{depth, enum_value, first, walk}
 -- the value of the first field of a name
 abbrev pub value_in : List ℕ → List Item → Option Value
 value_in name [] = None
-value_in name (item ∷ items) = if bytes_eq (out-Item item).name name then first (out-Item item).values else value_in name items
+value_in name (item ∷ items) =
+    if bytes_eq (out-Item item).name name then first (out-Item item).values else value_in name items
 
 abbrev pub placed : Value → Option Placed
 placed (value.Text place text) = Some (record { place = place; text = text })
@@ -53,7 +55,8 @@ number_in words name items = unwrap_or (option_and_then (enum_value words) (valu
 
 -- what is made of all values of the fields of a name
 abbrev pub all_in : {X : Type 0} → (Value → Option X) → List ℕ → List Item → List X
-all_in make name items = flat_map (λ item. if bytes_eq (out-Item item).name name then filter_map make (out-Item item).values else []) items
+all_in make name items =
+    flat_map (λ item. if bytes_eq (out-Item item).name name then filter_map make (out-Item item).values else []) items
 
 abbrev pub text_of : Value → Option (List ℕ)
 text_of (value.Text place text) = Some text
@@ -66,7 +69,8 @@ purpose_of number = if number == 1 then Feature else (if number == 2 then Bugfix
 
 -- the purpose of a flag that has metadata: unspecified where the metadata has none
 abbrev pub metadata_purpose : Value → Option Purpose
-metadata_purpose (value.Message place tree) = Some (purpose_of (number_in Purposes (codes "purpose") (out-Tree tree).items))
+metadata_purpose (value.Message place tree) =
+    Some (purpose_of (number_in Purposes (codes "purpose") (out-Tree tree).items))
 metadata_purpose _ = None
 
 -- what a `flag` declares, at its opening bracket
@@ -139,7 +143,8 @@ Refuses message text place fault = FailsText text place fault ⊎ FailsWalk mess
 
 -- the text declares this, under the name of its source
 abbrev pub Declares : List ℕ → List ℕ → DeclarationsFile → Type 0
-Declares source text file = (tree : Tree) × Passes message.FlagDeclarations text tree × (file ≡ declarations_in source tree)
+Declares source text file =
+    (tree : Tree) × Passes message.FlagDeclarations text tree × (file ≡ declarations_in source tree)
 
 -- the text sets this, under the name of its source
 abbrev pub Sets : List ℕ → List ℕ → ValuesFile → Type 0

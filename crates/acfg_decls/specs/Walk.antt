@@ -1,5 +1,6 @@
 -- The walk over messages in text order, depth first: each field's tests, and what a message lacks at its end.
-use Rattle.std.specs.Prelude.{◌≡◌, ℕ, zero, suc, ◌+◌, ◌-◌, ◌*◌, ◌<◌, ◌≤◌, ◌==◌, nat_lt, nat_le, Bool, true, false, ◌&&◌, ◌||◌, not, List, [], ◌∷◌, ◌++◌, map, Option, None, Some, is_some, if◌then◌else◌, codes}
+use Rattle.std.specs.Prelude.{◌≡◌, ℕ, zero, suc, ◌+◌, ◌-◌, ◌*◌, ◌<◌, ◌≤◌, ◌==◌, nat_lt, nat_le, Bool, true, false, ◌&&◌}
+use Rattle.std.specs.Prelude.{◌||◌, not, List, [], ◌∷◌, ◌++◌, map, Option, None, Some, is_some, if◌then◌else◌, codes}
 use Rattle.std.specs.List.{flat_map, list_all, list_any}
 use Rattle.std.specs.Option.{option_map, option_and_then}
 use Rattle.std.specs.Str.{bytes_eq}
@@ -36,13 +37,15 @@ abbrev pub digit : ℕ → ℕ → Option ℕ
 digit base byte =
     let value =
     if nat_le 48 byte && nat_le byte 57 then byte - 48
-    else (if nat_le 97 byte && nat_le byte 102 then byte - 87 else (if nat_le 65 byte && nat_le byte 70 then byte - 55 else 16)) in
+    else (if nat_le 97 byte && nat_le byte 102 then byte - 87
+    else (if nat_le 65 byte && nat_le byte 70 then byte - 55 else 16)) in
     if nat_lt value base then Some value else None
 
 -- digits of a base, behind those that make this number
 abbrev pub digits : ℕ → ℕ → List ℕ → Option ℕ
 digits base number [] = Some number
-digits base number (byte ∷ bytes) = option_and_then (λ value. digits base (number * base + value) bytes) (digit base byte)
+digits base number (byte ∷ bytes) =
+    option_and_then (λ value. digits base (number * base + value) bytes) (digit base byte)
 
 -- behind `0x`, one digit or more
 abbrev pub hexadecimal : List ℕ → Option ℕ
@@ -63,7 +66,8 @@ number_value (byte ∷ bytes) = if byte == 48 then behind_zero bytes else digits
 abbrev pub enum_value : Words → Value → Option ℕ
 enum_value words (value.Word place text) = number_of words text
 enum_value words (value.Number place text) =
-    option_and_then (λ number. if list_any (λ row. row.1 == number) (numbers words) then Some number else None) (number_value text)
+    option_and_then (λ number.
+    if list_any (λ row. row.1 == number) (numbers words) then Some number else None) (number_value text)
 enum_value words (value.Text place text) = None
 enum_value words (value.Message place tree) = None
 
@@ -105,7 +109,8 @@ abbrev pub field_faults : (Message → Tree → List Fault) → List Item → It
 field_faults walk earlier item field =
     let it = out-Item item in
     (if is_once field.often && (it.listed || stands it.name earlier) then (it.place, what.TwiceGiven) ∷ [] else [])
-    ++ ((if list_all (is_of field.form) it.values then [] else (it.place, what.BadScalar) ∷ []) ++ flat_map (inside walk field.form) it.values)
+    ++ ((if list_all (is_of field.form) it.values then [] else (it.place, what.BadScalar) ∷ [])
+    ++ flat_map (inside walk field.form) it.values)
 
 -- a field, which the table has or lacks
 abbrev pub item_faults : (Message → Tree → List Fault) → Message → List Item → Item → List Fault
@@ -118,7 +123,8 @@ item_faults walk message earlier item = by_field (field_of message (out-Item ite
 -- fields one after another, behind others
 abbrev pub items_faults : (Message → Tree → List Fault) → Message → List Item → List Item → List Fault
 items_faults walk message earlier [] = []
-items_faults walk message earlier (item ∷ items) = item_faults walk message earlier item ++ items_faults walk message (earlier ++ item ∷ []) items
+items_faults walk message earlier (item ∷ items) =
+    item_faults walk message earlier item ++ items_faults walk message (earlier ++ item ∷ []) items
 
 abbrev pub is_required : Often → Bool
 is_required Required = true

@@ -2,10 +2,12 @@
 
 ghost use Rattle.std.specs.Prelude.{◌≡◌, ◌+◌, ◌<◌, ◌^◌, ◌++◌, [], length, map, IfOk, IfErr, OnOk, All};
 ghost use Rattle.std.specs.List.{AllByRecursion, flat_map};
-ghost use Rattle.acfg_decls.specs.Compile.{Compiles, FailsToCompile, FirstFailsIn, Holds, IfIn, declarations_tests, declared, file_tests, flag_of, sourced};
+ghost use Rattle.acfg_decls.specs.Compile.{Compiles, FailsToCompile, FirstFailsIn, Holds, IfIn, declarations_tests};
+ghost use Rattle.acfg_decls.specs.Compile.{declared, file_tests, flag_of, sourced};
 ghost use Rattle.acfg_decls.specs.Flags.{IsLawful};
 ghost use Rattle.acfg_decls.specs.Places.{Finds, WhereMade, names};
 
+use crate::arranging::arrange;
 use crate::declared::{Declarations, Values};
 use crate::declaring::declare;
 use crate::faults::CompileFault;
@@ -33,7 +35,8 @@ pub fn compile(
     values: &[Values],
 ) -> Result<Flags, CompileFault>
     ensures ok { IfOk result (Compiles «package».now container.now declarations.now values.now) }
-    ensures err { IfErr result (λ fault. IfIn fault (FailsToCompile «package».now container.now declarations.now values.now)) }
+    ensures err { IfErr result (λ fault.
+        IfIn fault (FailsToCompile «package».now container.now declarations.now values.now)) }
 {
     let mut flags = Vec::new(alloc);
     let mut places = BTreeMap::new(alloc);
@@ -46,6 +49,7 @@ pub fn compile(
         &mut flags,
     )?;
     set_all(package, declarations.len(), values, &places, &mut flags)?;
+    arrange(alloc, &places, &mut flags)?;
     match Flags::new(alloc, flags)? {
         Some(flags) => Ok(flags),
         None => unreachable!(),
@@ -63,10 +67,13 @@ fn declare_all<'a>(
 ) -> Result<(), CompileFault>
     requires { Finds places.old (names flags.old.items) }
     ensures finds { OnOk result (Finds places.new (names flags.new.items)) }
-    ensures flags { OnOk result (flags.new.items ≡ flags.old.items ++ map (flag_of «package».now container.now []) (declared files.now)) }
+    ensures flags { OnOk result (flags.new.items ≡ flags.old.items
+        ++ map (flag_of «package».now container.now []) (declared files.now)) }
     ensures lawful { OnOk result (All IsLawful flags.old.items → All IsLawful flags.new.items) }
-    ensures passed { OnOk result (AllByRecursion (AllByRecursion Holds) (declarations_tests «package».now container.now (names flags.old.items) files.now)) }
-    ensures err { IfErr result (λ fault. IfIn fault (FirstFailsIn 0 (declarations_tests «package».now container.now (names flags.old.items) files.now))) }
+    ensures passed { OnOk result (AllByRecursion (AllByRecursion Holds)
+        (declarations_tests «package».now container.now (names flags.old.items) files.now)) }
+    ensures err { IfErr result (λ fault. IfIn fault (FirstFailsIn 0
+        (declarations_tests «package».now container.now (names flags.old.items) files.now))) }
 {
     let mut number = 0;
     for file in files {
@@ -94,7 +101,8 @@ fn set_all(
         flags.new.items ≡ map (flag_of «package».now container (set ++ flat_map sourced files.now)) declared)) }
     ensures passed { OnOk result (WhereMade «package».now flags.old.items (λ container set declared.
         AllByRecursion (AllByRecursion Holds) (map (file_tests «package».now declared) files.now))) }
-    ensures err { IfErr result (λ fault. IfIn fault (λ file place what. WhereMade «package».now flags.old.items (λ container set declared.
+    ensures err { IfErr result (λ fault.
+        IfIn fault (λ file place what. WhereMade «package».now flags.old.items (λ container set declared.
         FirstFailsIn first (map (file_tests «package».now declared) files.now) file place what))) }
 {
     let mut number = first;

@@ -1,9 +1,10 @@
 //! What files declare and set, as they have it, each text with its place.
 
-ghost use Rattle.std.specs.Prelude.{◌≡◌};
+ghost use Rattle.std.specs.Prelude.{◌≡◌, MatchOption, None, Some};
 
 use crate::flags::Purpose;
-use acfg_base::{Sequence, Text};
+use acfg_base::Sequence;
+use acfg_text::Text;
 use std::marker::Model;
 
 /// A text of a file, and the byte place of its first token, from 0.
@@ -32,7 +33,7 @@ pub struct DeclaredFlag {
 #[derive(Debug, Drop)]
 pub struct DeclarationsFile {
     /// The file's name, as it was given: the source of its flags' first points.
-    pub source: Text,
+    pub source: acfg_base::Text,
     pub package: Placed,
     pub container: Option<Placed>,
     /// In the order of the file.
@@ -58,7 +59,7 @@ pub struct FlagValue {
 #[derive(Debug, Drop)]
 pub struct ValuesFile {
     /// The file's name, as it was given: the source of its values' points.
-    pub source: Text,
+    pub source: acfg_base::Text,
     /// In the order of the file.
     pub values: Sequence<FlagValue>,
 }
@@ -89,6 +90,17 @@ impl Declarations {
         ensures { result.now ≡ self.now }
     {
         &self.file
+    }
+
+    /// The container that the file names, where it names one.
+    pub fn container(&self) -> Option<&str>
+        ensures { MatchOption result (self.now.container ≡ None)
+            (λ text. (named : Placed) × (self.now.container ≡ Some named) × (text.now ≡ named.text)) }
+    {
+        match &self.file.container {
+            Some(named) => Some(named.text.as_str()),
+            None => None,
+        }
     }
 
     /// The package that the file names.

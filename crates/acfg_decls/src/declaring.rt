@@ -2,7 +2,8 @@
 
 ghost use Rattle.std.specs.Prelude.{◌≡◌, ◌∷◌, ◌++◌, [], List, map, IfOk, IfErr, OnOk, All};
 ghost use Rattle.std.specs.List.{AllByRecursion};
-ghost use Rattle.acfg_decls.specs.Compile.{OfPackage, FirstFails, Holds, IfAt, flag_of, flag_tests, header_tests, own_tests, tests_behind};
+ghost use Rattle.acfg_decls.specs.Compile.{OfPackage, FirstFails, Holds, IfAt, flag_of, flag_tests, header_tests};
+ghost use Rattle.acfg_decls.specs.Compile.{own_tests, tests_behind};
 ghost use Rattle.acfg_decls.specs.Flags.{IsLawful};
 ghost use Rattle.acfg_decls.specs.Places.{Finds, names};
 
@@ -28,10 +29,14 @@ pub fn declare<'a>(
 ) -> Result<(), DeclFault>
     requires { Finds places.old (names flags.old.items) }
     ensures finds { OnOk result (Finds places.new (names flags.new.items)) }
-    ensures flags { OnOk result (flags.new.items ≡ flags.old.items ++ map (λ flag. flag_of «package».now container.now [] (file.now.source, flag)) file.now.flags) }
+    ensures flags { OnOk result (flags.new.items ≡ flags.old.items
+        ++ map (λ flag. flag_of «package».now container.now [] (file.now.source, flag)) file.now.flags) }
     ensures lawful { OnOk result (All IsLawful flags.old.items → All IsLawful flags.new.items) }
-    ensures passed { OnOk result (AllByRecursion Holds (header_tests «package».now container.now file.now ++ flag_tests (names flags.old.items) file.now.flags)) }
-    ensures err { IfErr result (λ fault. IfAt fault (FirstFails (header_tests «package».now container.now file.now ++ flag_tests (names flags.old.items) file.now.flags))) }
+    ensures passed { OnOk result (AllByRecursion Holds (header_tests «package».now container.now file.now
+        ++ flag_tests (names flags.old.items) file.now.flags)) }
+    ensures err { IfErr result (λ fault.
+        IfAt fault (FirstFails (header_tests «package».now container.now file.now
+        ++ flag_tests (names flags.old.items) file.now.flags))) }
 {
     test_header(package, container, file)?;
     for flag in file.flags.as_slice() {
@@ -52,7 +57,8 @@ fn declare_flag<'a>(
 ) -> Result<(), DeclFault>
     requires { Finds places.old (names flags.old.items) }
     ensures finds { OnOk result (Finds places.new (names flags.new.items)) }
-    ensures flags { OnOk result (flags.new.items ≡ flags.old.items ++ flag_of «package».now container.now [] (source.now, flag.now) ∷ []) }
+    ensures flags { OnOk result (flags.new.items ≡ flags.old.items
+        ++ flag_of «package».now container.now [] (source.now, flag.now) ∷ []) }
     ensures lawful { OnOk result (All IsLawful flags.old.items → All IsLawful flags.new.items) }
     ensures passed { OnOk result (AllByRecursion Holds (tests_behind (names flags.old.items) flag.now)) }
     ensures err { IfErr result (λ fault. IfAt fault (FirstFails (tests_behind (names flags.old.items) flag.now))) }
@@ -151,20 +157,31 @@ fn make_flag(
         enabled: false,
         writable: !flag.fixed,
     };
-    let mut trace = Sequence::new(alloc);
+    let mut trace = Vec::with_capacity(alloc, 1)?;
     trace.push(start)?;
     Ok(Flag {
         package: package.clone()?,
         name,
         namespace,
-        description: flag.description.text.clone()?,
-        bugs: flag.bugs.clone()?,
+        description: Text::new(String::from_str(alloc, flag.description.text.as_str())?),
+        bugs: copy_texts(alloc, flag.bugs.as_slice())?,
         enabled: false,
         writable: !flag.fixed,
-        trace,
+        trace: Sequence::from_vec(trace),
         fixed: flag.fixed,
         exported: flag.exported,
         container: container.clone()?,
         purpose: flag.purpose,
     })
+}
+
+// Texts of a file, each with memory of its own.
+fn copy_texts(alloc: Global, texts: &[acfg_text::Text]) -> Result<Sequence<Text>, AllocError>
+    ensures { IfOk result (λ copies. copies ≡ texts.now) }
+{
+    let mut copies = Vec::with_capacity(alloc, texts.len())?;
+    for text in texts {
+        copies.push(Text::new(String::from_str(alloc, text.as_str())?))?;
+    }
+    Ok(Sequence::from_vec(copies))
 }

@@ -60,12 +60,16 @@ pub fn read_values(alloc: Global, source: &str, bytes: &[u8]) -> Result<Values, 
 
 /// A text is read in one way or refused with one fault, never both, and in one of the two ways.
 pub fn one_reading()
-    ensures declares { (source text : List ℕ) (file other : DeclarationsFile) → Declares source text file → Declares source text other → file ≡ other }
-    ensures sets { (source text : List ℕ) (file other : ValuesFile) → Sets source text file → Sets source text other → file ≡ other }
+    ensures declares { (source text : List ℕ) (file other : DeclarationsFile) → Declares source text file
+        → Declares source text other → file ≡ other }
+    ensures sets { (source text : List ℕ) (file other : ValuesFile) → Sets source text file → Sets source text other
+        → file ≡ other }
     ensures refuses { (message : Message) (text : List ℕ) (place other_place : ℕ) (fault other : DeclWhat)
-        → Refuses message text place fault → Refuses message text other_place other → (place ≡ other_place) × (fault ≡ other) }
+        → Refuses message text place fault → Refuses message text other_place other
+        → (place ≡ other_place) × (fault ≡ other) }
     ensures apart { (message : Message) (text : List ℕ) (tree : Tree) (place : ℕ) (fault : DeclWhat)
         → Passes message text tree → Refuses message text place fault → ⊥ }
     ensures some { (message : Message) (text : List ℕ)
-        → ((tree : Tree) × Passes message text tree) ⊎ ((place : ℕ) × (fault : DeclWhat) × Refuses message text place fault) }
+        → ((tree : Tree) × Passes message text tree)
+        ⊎ ((place : ℕ) × (fault : DeclWhat) × Refuses message text place fault) }
 {}

@@ -1,6 +1,7 @@
 //! Compiled flags.
 
-ghost use Rattle.std.specs.Prelude.{◌≡◌, ◌≤◌, All, Any, length, IfOk, IfSome, MatchOption, map, IsPermutation, IsSortedByKey};
+ghost use Rattle.std.specs.Prelude.{◌≡◌, ◌≤◌, All, Any, length, IfOk, IfSome, MatchOption, map, IsPermutation};
+ghost use Rattle.std.specs.Prelude.{IsSortedByKey};
 ghost use Rattle.std.specs.Bool.{MatchBool};
 ghost use Rattle.std.specs.Cmp.Lexicographic.{slice_cmp};
 ghost use Rattle.std.specs.FinMap.{len};
@@ -146,7 +147,8 @@ impl Flags {
     /// The flags of a list in any order; none exactly where two have one name, one is both fixed and writable, or one
     /// has no point.
     pub fn new(_alloc: Global, mut list: Vec<Flag>) -> Result<Option<Flags>, OutOfMemory>
-        ensures flags { IfOk result (λ flags. MatchOption flags (AreNoFlags list.items) (λ flags. IsPermutation list.items flags)) }
+        ensures flags { IfOk result (λ flags.
+            MatchOption flags (AreNoFlags list.items) (λ flags. IsPermutation list.items flags)) }
         ensures lawful { IfOk result (λ flags. IfSome flags AreFlags) }
     {
         if !are_lawful(&list) {
@@ -241,7 +243,8 @@ fn sort(list: &mut Vec<Flag>)
 
 // Whether each flag stands before the next one.
 fn rise(list: &[Flag]) -> bool
-    ensures { MatchBool result (AreInOrder (slice_cmp nat_cmp) full_name list.now) (SomeStepDown (slice_cmp nat_cmp) full_name list.now) }
+    ensures { MatchBool result (AreInOrder (slice_cmp nat_cmp) full_name list.now)
+        (SomeStepDown (slice_cmp nat_cmp) full_name list.now) }
 {
     list.is_sorted_by(|flag, other| flag.compare(other).is_lt())
 }

@@ -1,6 +1,7 @@
 //! Declarations of flags and the values that builds set, compiled as AOSP aconfig compiles them.
 #![tactic(auto)]
 
+mod arranging;
 mod compiling;
 mod declared;
 mod declaring;

@@ -2,14 +2,16 @@
 
 ghost use Rattle.std.specs.Prelude.{◌≡◌, ◌++◌, codes, filter_map, IfOk, OnOk};
 ghost use Rattle.std.specs.Option.{option_copied, option_and_then};
-ghost use Rattle.acfg_decls.specs.Reading.{all_in, declarations_in, declared_flag, flag_at, metadata_purpose, number_in, set_value, text_in, text_of, the_text, value_at, value_in, values_in};
+ghost use Rattle.acfg_decls.specs.Reading.{all_in, declarations_in, declared_flag, flag_at, metadata_purpose};
+ghost use Rattle.acfg_decls.specs.Reading.{number_in, set_value, text_in, text_of, the_text, value_at, value_in};
+ghost use Rattle.acfg_decls.specs.Reading.{values_in};
 
 use crate::declared::{DeclarationsFile, DeclaredFlag, FlagValue, Placed, ValuesFile};
 use crate::flags::Purpose;
 use crate::messages::Words;
 use crate::scalars::enum_number;
-use acfg_base::{Sequence, Text};
-use acfg_text::{Item, Tree, Value};
+use acfg_base::Sequence;
+use acfg_text::{Item, Text, Tree, Value};
 use std::alloc::{AllocError, Global};
 
 /// What a declarations file has, of a tree in which the walk finds no fault.
@@ -22,7 +24,7 @@ pub fn declarations_of(
 {
     let items = tree.items.as_slice();
     Ok(DeclarationsFile {
-        source: Text::new(String::from_str(alloc, source)?),
+        source: acfg_base::Text::new(String::from_str(alloc, source)?),
         package: the_text(alloc, "package", items)?,
         container: text_in("container", items)?,
         flags: flags_in(alloc, items)?,
@@ -35,7 +37,7 @@ pub fn values_of(alloc: Global, source: &str, tree: &Tree) -> Result<ValuesFile,
     ensures { IfOk result (λ file. file ≡ values_in source.now tree.now) }
 {
     Ok(ValuesFile {
-        source: Text::new(String::from_str(alloc, source)?),
+        source: acfg_base::Text::new(String::from_str(alloc, source)?),
         values: set_in(alloc, tree.items.as_slice())?,
     })
 }
@@ -93,7 +95,7 @@ fn number_in(words: Words, name: &str, items: &[Item]) -> u64
 fn texts_in(alloc: Global, name: &str, items: &[Item]) -> Result<Sequence<Text>, AllocError>
     ensures { IfOk result (λ texts. texts ≡ all_in text_of name.now items.now) }
 {
-    let mut texts = Sequence::new(alloc);
+    let mut texts = Sequence::from_vec(Vec::with_capacity(alloc, 1)?);
     for item in items {
         if item.name.as_str() == name {
             add_texts(item.values.as_slice(), &mut texts)?;

@@ -27,7 +27,8 @@ pub fn set_values(
         flags.new.items ≡ map (flag_of «package».now container (set ++ sourced file.now)) declared)) }
     ensures passed { OnOk result (WhereMade «package».now flags.old.items (λ container set declared.
         AllByRecursion Holds (file_tests «package».now declared file.now))) }
-    ensures err { IfErr result (λ fault. IfAt fault (λ place what. WhereMade «package».now flags.old.items (λ container set declared.
+    ensures err { IfErr result (λ fault.
+        IfAt fault (λ place what. WhereMade «package».now flags.old.items (λ container set declared.
         FirstFails (file_tests «package».now declared file.now) place what))) }
 {
     for value in file.values.as_slice() {
@@ -51,7 +52,8 @@ fn set_value(
         flags.new.items ≡ map (flag_of «package».now container (set ++ (source.now, value.now) ∷ [])) declared)) }
     ensures passed { OnOk result (WhereMade «package».now flags.old.items (λ container set declared.
         AllByRecursion Holds (value_tests «package».now declared value.now))) }
-    ensures err { IfErr result (λ fault. IfAt fault (λ place what. WhereMade «package».now flags.old.items (λ container set declared.
+    ensures err { IfErr result (λ fault.
+        IfAt fault (λ place what. WhereMade «package».now flags.old.items (λ container set declared.
         FirstFails (value_tests «package».now declared value.now) place what))) }
 {
     if !is_package(value.package.text.as_str().as_bytes()) {

@@ -8,11 +8,16 @@ use acfg_base::{ContainerName, PackageName};
 use acfg_text::TextWhat;
 use std::test::Fail;
 
-const TWO_FLAGS: &str =
-    "package: \"com.a\" container: \"system\" flag { name: \"z\" namespace: \"n\" description: \"d\" bug: \"1\" metadata { purpose: PURPOSE_BUGFIX } } flag { name: \"a\" namespace: \"n\" description: \"d\" bug: \"2\" is_fixed_read_only: true }";
+const TWO_FLAGS: &str = "
+    package: \"com.a\" container: \"system\"
+    flag { name: \"z\" namespace: \"n\" description: \"d\" bug: \"1\" metadata { purpose: PURPOSE_BUGFIX } }
+    flag { name: \"a\" namespace: \"n\" description: \"d\" bug: \"2\" is_fixed_read_only: true }";
 
-const FOUR_VALUES: &str =
-    "flag_value { package: \"com.a\" name: \"z\" state: ENABLED permission: READ_ONLY } flag_value { package: \"com.b\" name: \"z\" state: DISABLED permission: READ_WRITE } flag_value { package: \"com.a\" name: \"z\" state: 1 permission: 0x2 } flag_value { package: \"com.a\" name: \"gone\" state: ENABLED permission: READ_WRITE }";
+const FOUR_VALUES: &str = "
+    flag_value { package: \"com.a\" name: \"z\" state: ENABLED permission: READ_ONLY }
+    flag_value { package: \"com.b\" name: \"z\" state: DISABLED permission: READ_WRITE }
+    flag_value { package: \"com.a\" name: \"z\" state: 1 permission: 0x2 }
+    flag_value { package: \"com.a\" name: \"gone\" state: ENABLED permission: READ_WRITE }";
 
 #[test]
 fn values_set_flags_in_order(rt: HostRuntime) -> Result<(), Fail> {
@@ -65,7 +70,8 @@ fn a_bool_has_its_spellings(rt: HostRuntime) -> Result<(), Fail> {
     ];
     for (spelling, fixed) in table {
         let text = format!(in alloc;
-            "package: \"com.a\" container: \"c\" flag {{ name: \"f\" namespace: \"n\" description: \"d\" bug: \"1\" is_fixed_read_only: {spelling} }}"
+            "package: \"com.a\" container: \"c\"
+                flag {{ name: \"f\" namespace: \"n\" description: \"d\" bug: \"1\" is_fixed_read_only: {spelling} }}"
         )?;
         match (read_declarations(alloc, "flags", text.as_bytes()), fixed) {
             (Ok(declarations), Some(fixed)) => {
@@ -75,7 +81,7 @@ fn a_bool_has_its_spellings(rt: HostRuntime) -> Result<(), Fail> {
             }
             (Err(fault), None) => assert_eq!(rt;
                 fault,
-                DeclFault::At(90, DeclWhat::BadScalar),
+                DeclFault::At(106, DeclWhat::BadScalar),
                 "{spelling}"
             ),
             _ => panic!(rt; "{spelling}"),
@@ -115,6 +121,7 @@ fn faults_have_their_places(rt: HostRuntime) -> Result<(), Fail> {
         }
     }
     let own = read_declarations(alloc, "flags", b"package: \"com.a\"")?;
+    assert!(rt; own.container().is_none());
     match compile_own(alloc, &own) {
         Ok(_) => panic!(rt; "no container is named"),
         Err(fault) => assert_eq!(rt; fault, CompileFault::In(0, 16, DeclWhat::MissingField)),

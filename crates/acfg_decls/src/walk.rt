@@ -3,7 +3,8 @@
 ghost use Rattle.std.specs.Prelude.{◌≡◌, ◌&&◌, ◌||◌};
 ghost use Rattle.std.specs.List.{flat_map, list_all};
 ghost use Rattle.acfg_text.specs.declared.tree.Item.{out-Item};
-ghost use Rattle.acfg_decls.specs.Walk.{first, inside, is_of, is_once, is_required, is_whole, item_faults, stands, walk};
+ghost use Rattle.acfg_decls.specs.Walk.{first, inside, is_of, is_once, is_required, is_whole, item_faults, stands};
+ghost use Rattle.acfg_decls.specs.Walk.{walk};
 
 use crate::faults::DeclWhat;
 use crate::messages::{Field, Form, Message, Often, find_field};

@@ -1,6 +1,7 @@
 mod Leading
 mod Resting
 mod Viable
+mod Ending
 mod Stopping
 mod Quotes
 pub mod Scans
@@ -12,3 +13,8 @@ mod Slices
 mod Steps
 mod Failures
 pub mod Wholes
+mod Folded
+mod Utf8Bytes
+mod Reprinted
+mod Soundness
+mod Again

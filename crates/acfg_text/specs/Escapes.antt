@@ -1,5 +1,6 @@
 -- What quoted texts stand for: the Protocol Buffers text format, "String literals".
-use Rattle.std.specs.Prelude.{ℕ, zero, suc, ◌+◌, ◌-◌, ◌*◌, ◌==◌, if◌then◌else◌, ◌&&◌, ◌||◌, nat_lt, nat_le, Bool, List, [], ◌∷◌, ◌++◌, length, fold, Option, Some, None, encode_utf8}
+use Rattle.std.specs.Prelude.{ℕ, zero, suc, ◌+◌, ◌-◌, ◌*◌, ◌==◌, if◌then◌else◌, ◌&&◌, ◌||◌, nat_lt, nat_le, Bool, List}
+use Rattle.std.specs.Prelude.{[], ◌∷◌, ◌++◌, length, fold, Option, Some, None, encode_utf8}
 use Rattle.acfg_text.specs.declared.quoted.Within.{Within}
 use Rattle.acfg_text.specs.declared.quoted.Within.TheVariants.{Close, Line, Backslash, Plain}
 use Rattle.acfg_text.specs.declared.quoted.Escape.{Escape}
@@ -27,9 +28,23 @@ number base start text = fold (λ n b. n * base + digit_value b) start text
 
 -- the escapes, by the byte behind the backslash
 unfoldable pub escape_by : ℕ → Escape
-escape_by b = if b == 97 then Byte 7 else (if b == 98 then Byte 8 else (if b == 116 then Byte 9 else (if b == 110 then Byte 10 else (if b == 118 then Byte 11 else (if b == 102 then Byte 12 else (if b == 114 then Byte 13 else
-    (if b == 63 then Byte 63 else (if b == 92 then Byte 92 else (if b == 39 then Byte 39 else (if b == 34 then Byte 34 else
-    (if is_octal b then Octal (b - 48) else (if b == 120 then Hexadecimal else (if b == 88 then Hexadecimal else (if b == 117 then Scalar 4 else (if b == 85 then Scalar 8 else Unknown)))))))))))))))
+escape_by b = if b == 97 then Byte 7
+    else (if b == 98 then Byte 8
+    else (if b == 116 then Byte 9
+    else (if b == 110 then Byte 10
+    else (if b == 118 then Byte 11
+    else (if b == 102 then Byte 12
+    else (if b == 114 then Byte 13
+    else (if b == 63 then Byte 63
+    else (if b == 92 then Byte 92
+    else (if b == 39 then Byte 39
+    else (if b == 34 then Byte 34
+    else (if is_octal b then Octal (b - 48)
+    else (if b == 120 then Hexadecimal
+    else (if b == 88 then Hexadecimal
+    else (if b == 117 then Scalar 4
+    else (if b == 85 then Scalar 8
+    else Unknown)))))))))))))))
 
 -- what stands behind a backslash: how many bytes the escape has, and the bytes that it stands for
 abbrev pub Escaped : Type 0
@@ -37,7 +52,8 @@ Escaped = Option (ℕ × List ℕ)
 
 -- an octal digit of this value and up to two more, of a value up to 255
 abbrev pub octal : ℕ → List ℕ → Escaped
-octal first found = if nat_le (number 8 first found) 255 then Some (length found + 1, number 8 first found ∷ []) else None
+octal first found =
+    if nat_le (number 8 first found) 255 then Some (length found + 1, number 8 first found ∷ []) else None
 
 -- one or two hexadecimal digits behind `x`
 abbrev pub hexadecimal : List ℕ → Escaped
@@ -49,7 +65,8 @@ is_scalar n = nat_lt n 0xD800 || (nat_le 0xE000 n && nat_le n 0x10FFFF)
 
 -- so many hexadecimal digits behind `u` or `U`, which name a Unicode scalar value: its UTF-8 bytes
 abbrev pub unicode : ℕ → List ℕ → Escaped
-unicode n found = if (length found == n) && is_scalar (number 16 0 found) then Some (n + 1, encode_utf8 (number 16 0 found)) else None
+unicode n found =
+    if (length found == n) && is_scalar (number 16 0 found) then Some (n + 1, encode_utf8 (number 16 0 found)) else None
 
 abbrev pub escape_as : Escape → ℕ → List ℕ → Escaped
 escape_as (Byte value) b text = Some (1, value ∷ [])
@@ -67,7 +84,8 @@ escape (b ∷ text) = escape_as (escape_by b) b text
 unfoldable pub within : ℕ → ℕ → Within
 within quote b = if b == quote then Close else (if b == 10 then Line else (if b == 92 then Backslash else Plain))
 
--- What the text behind an opening quote stands for, up to the quote that closes it; so many bytes at its front are an escape's.
+-- What the text behind an opening quote stands for, up to the quote that closes it; so many bytes at its front are an
+-- escape's.
 abbrev pub value_behind : ℕ → ℕ → List ℕ → List ℕ
 value_behind quote skipped [] = []
 value_behind quote (suc skipped) (b ∷ text) = value_behind quote skipped text

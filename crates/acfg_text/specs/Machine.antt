@@ -1,5 +1,6 @@
 -- Words of the reader's private contracts and of proofs alone: a machine that reads the grammar's terminals one by one.
-use Rattle.std.specs.Prelude.{ℕ, ◌&&◌, not, nat_le, Bool, true, false, List, [], ◌∷◌, ◌++◌, length, Option, Some, None, Result, Ok, Err}
+use Rattle.std.specs.Prelude.{ℕ, ◌&&◌, not, nat_le, Bool, true, false, List, [], ◌∷◌, ◌++◌, length, Option, Some, None}
+use Rattle.std.specs.Prelude.{Result, Ok, Err}
 use Rattle.std.specs.Str.{is_utf8}
 use Rattle.acfg_text.specs.declared.classes.Bracket.{Bracket}
 use Rattle.acfg_text.specs.declared.classes.Bracket.TheVariants.{Curly, Angle}
@@ -124,7 +125,8 @@ abbrev pub on_item : Head → Bool → List Value → Class → Terminal → Lis
 on_item h colon values (c.Open bracket) t top frames = Some (opened h (among colon values) bracket t.place top frames)
 on_item h true values c.Word t top frames = Some (settle h (among true values) (v.Word t.place t.text) top frames)
 on_item h true values c.Number t top frames = Some (settle h (among true values) (v.Number t.place t.text) top frames)
-on_item h true values c.Quoted t top frames = Some (st (in_text h (among true values) t.place (spelled t.text)) top frames)
+on_item h true values c.Quoted t top frames =
+    Some (st (in_text h (among true values) t.place (spelled t.text)) top frames)
 on_item h colon values _ t top frames = None
 
 abbrev pub on_list : Head → Bool → Class → Terminal → List Item → List Frame → Option State
@@ -138,9 +140,12 @@ on_behind_item h colon values _ t top frames = None
 
 -- behind quoted tokens: one more, or another token, behind the value that they are
 abbrev pub on_text : Bool → Head → Slot → ℕ → List ℕ → Class → Terminal → List Item → List Frame → Option State
-on_text true h slot place bytes class t top frames = Some (st (in_text h slot place (bytes ++ spelled t.text)) top frames)
-on_text false h single place bytes class t top frames = on_behind_field class t (top ++ plain_item h (v.Text place bytes) ∷ []) frames
-on_text false h (among colon values) place bytes class t top frames = on_behind_item h colon (values ++ v.Text place bytes ∷ []) class t top frames
+on_text true h slot place bytes class t top frames =
+    Some (st (in_text h slot place (bytes ++ spelled t.text)) top frames)
+on_text false h single place bytes class t top frames =
+    on_behind_field class t (top ++ plain_item h (v.Text place bytes) ∷ []) frames
+on_text false h (among colon values) place bytes class t top frames =
+    on_behind_item h colon (values ++ v.Text place bytes ∷ []) class t top frames
 
 -- the state behind one more terminal, of any depth and with texts of any bytes
 abbrev pub plain : Mode → Class → Terminal → List Item → List Frame → Option State
@@ -175,7 +180,9 @@ step_by None (Some s) (Some f) place = Err f
 step_by None (Some s) None place = Ok s
 
 abbrev pub step_at : Bool → Mode → Class → Terminal → List Item → List Frame → Result State Fault
-step_at strict mode class t top frames = step_by (text_fault strict mode (is_quoted class)) (plain mode class t top frames) (depth_fault strict class t.place frames) t.place
+step_at strict mode class t top frames =
+    step_by (text_fault strict mode (is_quoted class)) (plain mode class t top frames)
+    (depth_fault strict class t.place frames) t.place
 
 abbrev pub step : Bool → State → Terminal → Result State Fault
 step strict s t = step_at strict s.mode t.class t s.top s.frames
@@ -217,7 +224,8 @@ pub data Waits : Mode → Head → Slot → Bool → Type 0 where
   waits_name : {h : Head} → Waits (behind_name h) h single false
   waits_colon : {h : Head} → Waits (behind_colon h) h single true
   waits_list : {h : Head} {colon : Bool} → Waits (in_list h colon) h (among colon []) colon
-  waits_item : {h : Head} {colon : Bool} {values : List Value} → Waits (at_item h colon values) h (among colon values) colon
+  waits_item : {h : Head} {colon : Bool} {values : List Value}
+      → Waits (at_item h colon values) h (among colon values) colon
 
 -- a mode in which a list may open, and whether it stands behind a colon
 pub data Lists : Mode → Head → Bool → Type 0 where

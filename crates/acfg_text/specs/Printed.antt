@@ -1,5 +1,6 @@
 -- A tree as one line of text, in this project's own layout of the Protocol Buffers text format.
-use Rattle.std.specs.Prelude.{ℕ, ◌+◌, ◌/◌, ◌%◌, ◌==◌, if◌then◌else◌, ◌&&◌, nat_le, Bool, true, false, List, [], ◌∷◌, ◌++◌, map, codes}
+use Rattle.std.specs.Prelude.{ℕ, ◌+◌, ◌/◌, ◌%◌, ◌==◌, if◌then◌else◌, ◌&&◌, nat_le, Bool, true, false, List, [], ◌∷◌}
+use Rattle.std.specs.Prelude.{◌++◌, map, codes}
 use Rattle.std.specs.List.{flat_map}
 use Rattle.acfg_text.specs.declared.tree.Tree.{Tree, fold-Tree}
 use Rattle.acfg_text.specs.declared.tree.Item.{Item, fold-Item}
@@ -9,7 +10,10 @@ use Rattle.acfg_text.specs.declared.tree.Value.TheOpen as layer
 
 -- a byte of a text between double quotes
 unfoldable pub printed_byte : ℕ → List ℕ
-printed_byte b = if b == 92 then codes "\\\\" else (if b == 34 then codes "\\\"" else (if nat_le 32 b && nat_le b 126 then b ∷ [] else (92 ∷ (48 + b / 64) ∷ (48 + b / 8 % 8) ∷ (48 + b % 8) ∷ [])))
+printed_byte b = if b == 92 then codes "\\\\"
+    else (if b == 34 then codes "\\\""
+    else (if nat_le 32 b && nat_le b 126 then b ∷ []
+    else (92 ∷ (48 + b / 64) ∷ (48 + b / 8 % 8) ∷ (48 + b % 8) ∷ [])))
 
 abbrev pub quoted : List ℕ → List ℕ
 quoted bytes = 34 ∷ (flat_map printed_byte bytes ++ 34 ∷ [])

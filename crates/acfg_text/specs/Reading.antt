@@ -14,7 +14,9 @@ use Rattle.acfg_text.specs.declared.fault.TextWhat.{TextWhat}
 use Rattle.acfg_text.specs.Trees.{item, tree}
 use Rattle.acfg_text.specs.Terminals.{lexeme_of, Terminal, terminal, terminal_of}
 use Rattle.acfg_text.specs.TextFaults.{is_quoted}
-use Rattle.acfg_text.specs.Machine.{Head, Slot, among, Frame, Mode, at_field, behind_field, behind_name, behind_colon, in_list, at_item, behind_item, in_text, State, st, fault, settle, close_list, run, begin, Waits}
+use Rattle.acfg_text.specs.Machine.{Head, Slot, among, Frame, Mode, at_field, behind_field, behind_name, behind_colon}
+use Rattle.acfg_text.specs.Machine.{in_list, at_item, behind_item, in_text, State, st, fault, settle, close_list, run}
+use Rattle.acfg_text.specs.Machine.{begin, Waits}
 
 abbrev pub terminal_at : Token → Terminal
 terminal_at token = terminal_of (lexeme_of token)
@@ -50,7 +52,8 @@ abbrev pub IsQuoteAt : List Token → ℕ → List ℕ → Type 0
 IsQuoteAt tokens at text = (p : ℕ) × (ahead tokens at ≡ terminal c.Quoted p text ∷ ahead tokens (at + 1))
 
 abbrev pub ClosesList : List Token → ℕ → Type 0
-ClosesList tokens at = (p : ℕ) × (text : List ℕ) × (ahead tokens at ≡ terminal c.CloseList p text ∷ ahead tokens (at + 1))
+ClosesList tokens at =
+    (p : ℕ) × (text : List ℕ) × (ahead tokens at ≡ terminal c.CloseList p text ∷ ahead tokens (at + 1))
 
 abbrev pub NoClosing : List Terminal → Type 0
 NoClosing [] = Unit {0}
@@ -67,7 +70,10 @@ IsNoOpening _ = Unit {0}
 
 -- a field's end leads to where the next field is due
 abbrev pub SkipsEnd : List Token → ℕ → ℕ → Type 0
-SkipsEnd tokens at next = (end : ℕ) (top : List Item) (frames : List Frame) → run true end (ahead tokens at) (st behind_field top frames) ≡ run true end (ahead tokens next) (st at_field top frames)
+SkipsEnd tokens at next =
+    (end : ℕ) (top : List Item) (frames : List Frame)
+    → run true end (ahead tokens at) (st behind_field top frames)
+    ≡ run true end (ahead tokens next) (st at_field top frames)
 
 -- where a list is behind an item: at the next one, or closed
 abbrev pub list_state : Bool → Head → Bool → List Value → List Item → List Frame → State
@@ -83,72 +89,103 @@ module _ (tokens : List Token) (end : ℕ) where
   FailsBy from s p w = run true end (ahead tokens from) s ≡ Err (fault p w)
 
   pub record ReadsFields (depth from : ℕ) (items : List Item) (at : ℕ) : Type 0 where
-    pub leads : (frames : List Frame) → length frames ≡ depth → Leads from (st at_field [] frames) at (st at_field items frames)
+    pub leads : (frames : List Frame) → length frames ≡ depth
+        → Leads from (st at_field [] frames) at (st at_field items frames)
     pub ends : NoField (ahead tokens at)
 
   abbrev pub FailsFields : ℕ → ℕ → ℕ → TextWhat → Type 0
   FailsFields depth from p w = (frames : List Frame) → length frames ≡ depth → FailsBy from (st at_field [] frames) p w
 
   abbrev pub ReadsField : ℕ → ℕ → Item → ℕ → Type 0
-  ReadsField depth from i at = (top : List Item) (frames : List Frame) → length frames ≡ depth → Leads from (st at_field top frames) at (st at_field (top ++ i ∷ []) frames)
+  ReadsField depth from i at =
+      (top : List Item) (frames : List Frame) → length frames ≡ depth
+      → Leads from (st at_field top frames) at (st at_field (top ++ i ∷ []) frames)
 
   abbrev pub FailsField : ℕ → ℕ → ℕ → TextWhat → Type 0
-  FailsField depth from p w = (top : List Item) (frames : List Frame) → length frames ≡ depth → FailsBy from (st at_field top frames) p w
+  FailsField depth from p w =
+      (top : List Item) (frames : List Frame) → length frames ≡ depth → FailsBy from (st at_field top frames) p w
 
   abbrev pub ReadsHeld : ℕ → ℕ → Bool → List Value → ℕ → Type 0
   ReadsHeld depth from listed values at = (h : Head) (top : List Item) (frames : List Frame) → length frames ≡ depth
-      → Leads from (st (behind_name h) top frames) at (st behind_field (top ++ item h.name h.place listed values ∷ []) frames)
+      → Leads from (st (behind_name h) top frames) at
+      (st behind_field (top ++ item h.name h.place listed values ∷ []) frames)
 
   abbrev pub FailsHeld : ℕ → ℕ → ℕ → TextWhat → Type 0
-  FailsHeld depth from p w = (h : Head) (top : List Item) (frames : List Frame) → length frames ≡ depth → FailsBy from (st (behind_name h) top frames) p w
+  FailsHeld depth from p w =
+      (h : Head) (top : List Item) (frames : List Frame) → length frames ≡ depth
+      → FailsBy from (st (behind_name h) top frames) p w
 
   abbrev pub ReadsColon : ℕ → ℕ → Bool → List Value → ℕ → Type 0
   ReadsColon depth from listed values at = (h : Head) (top : List Item) (frames : List Frame) → length frames ≡ depth
-      → Leads from (st (behind_colon h) top frames) at (st behind_field (top ++ item h.name h.place listed values ∷ []) frames)
+      → Leads from (st (behind_colon h) top frames) at
+      (st behind_field (top ++ item h.name h.place listed values ∷ []) frames)
 
   abbrev pub FailsColon : ℕ → ℕ → ℕ → TextWhat → Type 0
-  FailsColon depth from p w = (h : Head) (top : List Item) (frames : List Frame) → length frames ≡ depth → FailsBy from (st (behind_colon h) top frames) p w
+  FailsColon depth from p w =
+      (h : Head) (top : List Item) (frames : List Frame) → length frames ≡ depth
+      → FailsBy from (st (behind_colon h) top frames) p w
 
   abbrev pub ReadsList : Bool → ℕ → ℕ → List Value → ℕ → Type 0
-  ReadsList colon depth from values at = (h : Head) (top : List Item) (frames : List Frame) → length frames ≡ depth → Leads from (st (in_list h colon) top frames) at (close_list h values top frames)
+  ReadsList colon depth from values at =
+      (h : Head) (top : List Item) (frames : List Frame) → length frames ≡ depth
+      → Leads from (st (in_list h colon) top frames) at (close_list h values top frames)
 
   abbrev pub FailsList : Bool → ℕ → ℕ → ℕ → TextWhat → Type 0
-  FailsList colon depth from p w = (h : Head) (top : List Item) (frames : List Frame) → length frames ≡ depth → FailsBy from (st (in_list h colon) top frames) p w
+  FailsList colon depth from p w =
+      (h : Head) (top : List Item) (frames : List Frame) → length frames ≡ depth
+      → FailsBy from (st (in_list h colon) top frames) p w
 
   -- a value of this kind where one may come
   abbrev pub ReadsValue : Bool → ℕ → ℕ → Value → ℕ → Type 0
-  ReadsValue colon depth from value at = (mode : Mode) (h : Head) (slot : Slot) (top : List Item) (frames : List Frame) → Waits mode h slot colon → length frames ≡ depth → Leads from (st mode top frames) at (settle h slot value top frames)
+  ReadsValue colon depth from value at =
+      (mode : Mode) (h : Head) (slot : Slot) (top : List Item) (frames : List Frame) → Waits mode h slot colon
+      → length frames ≡ depth → Leads from (st mode top frames) at (settle h slot value top frames)
 
   abbrev pub FailsValue : Bool → ℕ → ℕ → ℕ → TextWhat → Type 0
-  FailsValue colon depth from p w = (mode : Mode) (h : Head) (slot : Slot) (top : List Item) (frames : List Frame) → Waits mode h slot colon → length frames ≡ depth → FailsBy from (st mode top frames) p w
+  FailsValue colon depth from p w =
+      (mode : Mode) (h : Head) (slot : Slot) (top : List Item) (frames : List Frame) → Waits mode h slot colon
+      → length frames ≡ depth → FailsBy from (st mode top frames) p w
 
   abbrev pub ReadsElement : Bool → ℕ → ℕ → Value → ℕ → Type 0
-  ReadsElement colon depth from value at = (h : Head) (old : List Value) (top : List Item) (frames : List Frame) → length frames ≡ depth → Leads from (st (at_item h colon old) top frames) at (settle h (among colon old) value top frames)
+  ReadsElement colon depth from value at =
+      (h : Head) (old : List Value) (top : List Item) (frames : List Frame) → length frames ≡ depth
+      → Leads from (st (at_item h colon old) top frames) at (settle h (among colon old) value top frames)
 
   abbrev pub FailsElement : Bool → ℕ → ℕ → ℕ → TextWhat → Type 0
-  FailsElement colon depth from p w = (h : Head) (old : List Value) (top : List Item) (frames : List Frame) → length frames ≡ depth → FailsBy from (st (at_item h colon old) top frames) p w
+  FailsElement colon depth from p w =
+      (h : Head) (old : List Value) (top : List Item) (frames : List Frame) → length frames ≡ depth
+      → FailsBy from (st (at_item h colon old) top frames) p w
 
   -- a scalar behind a colon or in a list that stands behind one
   abbrev pub FailsScalar : ℕ → ℕ → ℕ → TextWhat → Type 0
-  FailsScalar depth from p w = (h : Head) (old : List Value) (top : List Item) (frames : List Frame) → length frames ≡ depth
+  FailsScalar depth from p w =
+      (h : Head) (old : List Value) (top : List Item) (frames : List Frame) → length frames ≡ depth
       → FailsBy from (st (behind_colon h) top frames) p w × FailsBy from (st (at_item h true old) top frames) p w
 
   abbrev pub ClosesBy : ℕ → Bracket → ℕ → Type 0
   ClosesBy at bracket place = (items : List Item) (f : Frame) (frames : List Frame) → f.bracket ≡ bracket
-      → Leads at (st at_field items (f ∷ frames)) (at + 1) (settle f.head f.slot (v.Message f.place (tree items place)) f.top frames)
+      → Leads at (st at_field items (f ∷ frames)) (at + 1)
+      (settle f.head f.slot (v.Message f.place (tree items place)) f.top frames)
 
   abbrev pub FailsToClose : ℕ → Bracket → ℕ → TextWhat → Type 0
-  FailsToClose at bracket p w = (items : List Item) (f : Frame) (frames : List Frame) → f.bracket ≡ bracket → FailsBy at (st at_field items (f ∷ frames)) p w
+  FailsToClose at bracket p w =
+      (items : List Item) (f : Frame) (frames : List Frame) → f.bracket ≡ bracket
+      → FailsBy at (st at_field items (f ∷ frames)) p w
 
   abbrev pub GoesOn : ℕ → Bool → Type 0
-  GoesOn at more = (h : Head) (colon : Bool) (values : List Value) (top : List Item) (frames : List Frame) → Leads at (st (behind_item h colon values) top frames) (at + 1) (list_state more h colon values top frames)
+  GoesOn at more =
+      (h : Head) (colon : Bool) (values : List Value) (top : List Item) (frames : List Frame)
+      → Leads at (st (behind_item h colon values) top frames) (at + 1) (list_state more h colon values top frames)
 
   abbrev pub FailsToGoOn : ℕ → ℕ → TextWhat → Type 0
-  FailsToGoOn at p w = (h : Head) (colon : Bool) (values : List Value) (top : List Item) (frames : List Frame) → FailsBy at (st (behind_item h colon values) top frames) p w
+  FailsToGoOn at p w =
+      (h : Head) (colon : Bool) (values : List Value) (top : List Item) (frames : List Frame)
+      → FailsBy at (st (behind_item h colon values) top frames) p w
 
   -- quoted tokens join to bytes, and no further one stands behind them
   pub record Joins (old : List ℕ) (from : ℕ) (bytes : List ℕ) (at : ℕ) : Type 0 where
-    pub leads : (h : Head) (slot : Slot) (place : ℕ) (top : List Item) (frames : List Frame) → Leads from (st (in_text h slot place old) top frames) at (st (in_text h slot place bytes) top frames)
+    pub leads : (h : Head) (slot : Slot) (place : ℕ) (top : List Item) (frames : List Frame)
+        → Leads from (st (in_text h slot place old) top frames) at (st (in_text h slot place bytes) top frames)
     pub ends : NoQuote (ahead tokens at)
 
   -- all tokens, from the first on

@@ -1,5 +1,6 @@
 -- Words of the lexer's private contracts and of proofs alone: tokens as a function of the text.
-use Rattle.std.specs.Prelude.{ℕ, zero, suc, ◌+◌, ◌<◌, ◌≤◌, Bool, true, false, not, List, [], ◌∷◌, ◌++◌, Some, None, Result, Ok, Err, take}
+use Rattle.std.specs.Prelude.{ℕ, zero, suc, ◌+◌, ◌<◌, ◌≤◌, Bool, true, false, not, List, [], ◌∷◌, ◌++◌, Some, None}
+use Rattle.std.specs.Prelude.{Result, Ok, Err, take}
 use Rattle.std.specs.List.{prefix_len}
 use Rattle.acfg_text.specs.declared.token.TokenKind.{TokenKind}
 use Rattle.acfg_text.specs.declared.token.TokenKind.TheVariants.{Word, Number, Quoted, Symbol}
@@ -62,7 +63,8 @@ abbrev pub with_front : List Lexeme → Result (List Lexeme) Fault → Result (L
 with_front front (Ok found) = Ok (front ++ found)
 with_front front (Err f) = Err f
 
-abbrev pub lex_token : TokenKind → ℕ → ℕ → List ℕ → Result ℕ Fault → (ℕ → Result (List Lexeme) Fault) → Result (List Lexeme) Fault
+abbrev pub lex_token : TokenKind → ℕ → ℕ → List ℕ → Result ℕ Fault → (ℕ → Result (List Lexeme) Fault)
+    → Result (List Lexeme) Fault
 lex_token kind b at text (Ok n) more = with_front (lexeme kind at (b ∷ take n text) ∷ []) (more n)
 lex_token kind b at text (Err f) more = Err f
 

@@ -9,7 +9,8 @@ use Rattle.acfg_text.specs.Lexes.{Lexes, LexFault}
 use Rattle.acfg_text.specs.Grammar.{Derives}
 use Rattle.acfg_text.specs.TextFaults.{IsFirst}
 
--- The text is tokens that derive the tree by the grammar, no field of depth 32 holds a message, and each joined text is UTF-8.
+-- The text is tokens that derive the tree by the grammar, no field of depth 32 holds a message, and each joined text is
+-- UTF-8.
 pub record Spells (text : List ℕ) (read : Tree) : Type 0 where
   pub found : List Lexeme
   pub items : List Item

@@ -22,7 +22,15 @@ lexeme_of token = lexeme token.kind token.place token.text.now
 
 -- the terminal that a symbol's byte is; the last of the nine is `;`
 unfoldable pub symbol : ℕ → Class
-symbol b = if b == 58 then classes.Colon else (if b == 44 then classes.Comma else (if b == 123 then classes.Open Curly else (if b == 125 then classes.Close Curly else (if b == 60 then classes.Open Angle else (if b == 62 then classes.Close Angle else (if b == 91 then classes.OpenList else (if b == 93 then classes.CloseList else classes.Semicolon)))))))
+symbol b = if b == 58 then classes.Colon
+    else (if b == 44 then classes.Comma
+    else (if b == 123 then classes.Open Curly
+    else (if b == 125 then classes.Close Curly
+    else (if b == 60 then classes.Open Angle
+    else (if b == 62 then classes.Close Angle
+    else (if b == 91 then classes.OpenList
+    else (if b == 93 then classes.CloseList
+    else classes.Semicolon)))))))
 
 abbrev pub class_of : TokenKind → List ℕ → Class
 class_of kinds.Word text = classes.Word

@@ -41,13 +41,18 @@ BeginsUnquoted (t ∷ ts) = is_quoted t.class ≡ false
 -- The tokens of a text of this length have this fault at this place.
 pub data Faulty (tokens : List Terminal) (end : ℕ) : ℕ → TextWhat → Type 0 where
   -- the tokens before one begin some form, and with it they begin none
-  stray : (before : List Terminal) (t : Terminal) (after : List Terminal) → tokens ≡ before ++ t ∷ after → Begins before → (Begins (before ++ t ∷ []) → ⊥) → Faulty tokens end t.place Unexpected
+  stray : (before : List Terminal) (t : Terminal) (after : List Terminal) → tokens ≡ before ++ t ∷ after → Begins before
+      → (Begins (before ++ t ∷ []) → ⊥) → Faulty tokens end t.place Unexpected
   -- all tokens begin some form and have none
   early : Begins tokens → ((items : List Item) → HasForm tokens items → ⊥) → Faulty tokens end end Unexpected
   -- a message opens where 32 are open
-  deep : (before : List Terminal) (t : Terminal) (after : List Terminal) → tokens ≡ before ++ t ∷ after → Begins (before ++ t ∷ []) → is_open t.class ≡ true → 32 ≤ nesting 0 before → Faulty tokens end t.place TooDeep
+  deep : (before : List Terminal) (t : Terminal) (after : List Terminal) → tokens ≡ before ++ t ∷ after
+      → Begins (before ++ t ∷ []) → is_open t.class ≡ true → 32 ≤ nesting 0 before → Faulty tokens end t.place TooDeep
   -- quoted tokens, all that stand together, join to bytes that aren't UTF-8
-  bad_text : (before : List Terminal) (first : Terminal) (texts : List Terminal) (after : List Terminal) (bytes : List ℕ) → tokens ≡ before ++ ((first ∷ texts) ++ after) → Begins (before ++ first ∷ texts) → EndsUnquoted before → Texts bytes (first ∷ texts) [] → BeginsUnquoted after → is_utf8 bytes ≡ false → Faulty tokens end first.place BadUtf8
+  bad_text : (before : List Terminal) (first : Terminal) (texts : List Terminal) (after : List Terminal)
+      (bytes : List ℕ) → tokens ≡ before ++ ((first ∷ texts) ++ after) → Begins (before ++ first ∷ texts)
+      → EndsUnquoted before → Texts bytes (first ∷ texts) [] → BeginsUnquoted after → is_utf8 bytes ≡ false
+      → Faulty tokens end first.place BadUtf8
 
 -- a fault of the tokens with the least place
 pub record IsFirst (tokens : List Terminal) (end place : ℕ) (what : TextWhat) : Type 0 where

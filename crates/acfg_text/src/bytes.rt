@@ -2,7 +2,8 @@
 
 ghost use Rattle.std.specs.Prelude.{◌≡◌, ◌≤◌, length};
 ghost use Rattle.std.specs.List.{prefix_len};
-ghost use Rattle.acfg_text.specs.Lexes.{is_white, is_letter, is_digit, is_word, is_number, is_quote, is_symbol, is_line_feed, lead};
+ghost use Rattle.acfg_text.specs.Lexes.{is_white, is_letter, is_digit, is_word, is_number, is_quote, is_symbol};
+ghost use Rattle.acfg_text.specs.Lexes.{is_line_feed, lead};
 ghost use Rattle.acfg_text.specs.Scanning.{comment_len};
 
 use crate::token::TokenKind;

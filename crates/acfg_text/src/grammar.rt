@@ -1,19 +1,24 @@
 //! Trees read from tokens, by the grammar of the Protocol Buffers text format.
 
-ghost use Rattle.std.specs.Prelude.{◌≡◌, ◌≢◌, [], ◌∷◌, ◌+◌, ◌<◌, ◌≤◌, true, false, length, IfOk, IfErr, IfSome, MatchOption, Bool, ℕ};
+ghost use Rattle.std.specs.Prelude.{◌≡◌, ◌≢◌, [], ◌∷◌, ◌+◌, ◌<◌, ◌≤◌, true, false, length, IfOk, IfErr, IfSome};
+ghost use Rattle.std.specs.Prelude.{MatchOption, Bool, ℕ};
 ghost use Rattle.std.specs.Bool.{OnTrue, OnFalse};
 ghost use Rattle.std.specs.Str.{IsAscii};
 ghost use Rattle.acfg_text.specs.Escapes.{spelled};
 ghost use Rattle.acfg_text.specs.TextFaults.{is_quoted, IfAt};
-ghost use Rattle.acfg_text.specs.Reading.{ahead, ArePlain, seen_of, NoField, IsNext, ReadsFields, FailsFields, ReadsField, FailsField, ReadsHeld, FailsHeld, ReadsColon, FailsColon, ReadsList, FailsList, ReadsValue, FailsValue, ReadsElement, FailsElement, ClosesBy, FailsToClose, GoesOn, FailsToGoOn, ClosesList, ClosesNoList, IsNoOpening, FailsScalar, Joins, NoQuote, IsQuoteAt};
+ghost use Rattle.acfg_text.specs.Reading.{ahead, ArePlain, seen_of, NoField, IsNext, ReadsFields, FailsFields};
+ghost use Rattle.acfg_text.specs.Reading.{ReadsField, FailsField, ReadsHeld, FailsHeld, ReadsColon, FailsColon};
+ghost use Rattle.acfg_text.specs.Reading.{ReadsList, FailsList, ReadsValue, FailsValue, ReadsElement, FailsElement};
+ghost use Rattle.acfg_text.specs.Reading.{ClosesBy, FailsToClose, GoesOn, FailsToGoOn, ClosesList, ClosesNoList};
+ghost use Rattle.acfg_text.specs.Reading.{IsNoOpening, FailsScalar, Joins, NoQuote, IsQuoteAt};
 
 use crate::classes::{Bracket, Class};
 use crate::fault::{TextFault, TextWhat};
 use crate::quoted::push_spelled;
 use crate::terminals::{Seen, field_name, peek, skip_end, text_of};
+use crate::text::Text;
 use crate::token::Token;
 use crate::tree::{Item, Tree, Value};
-use acfg_base::Text;
 use sqlite_items::Items;
 use std::alloc::{AllocError, Global};
 
@@ -229,7 +234,8 @@ fn read_message(
     requires opens { opening.class ≡ Class.Open bracket }
     ensures ok { IfOk result (λ r. (colon : Bool) → ReadsValue tokens.now end colon depth at r.0 r.1) }
     ensures within { IfOk result (λ r. (at < r.1) × (r.1 ≤ length tokens.now)) }
-    ensures err { IfErr result (λ failure. IfAt failure (λ p w. (colon : Bool) → FailsValue tokens.now end colon depth at p w)) }
+    ensures err { IfErr result (λ failure.
+        IfAt failure (λ p w. (colon : Bool) → FailsValue tokens.now end colon depth at p w)) }
 {
     if depth >= MOST_OPEN {
         return Err(TextFault::At(opening.place, TextWhat::TooDeep));
@@ -307,7 +313,8 @@ fn read_scalar(
     requires opens { IsNoOpening seen.class }
     ensures ok { IfOk result (λ r. (depth : ℕ) → ReadsValue tokens.now end true depth at r.0 r.1) }
     ensures within { IfOk result (λ r. (at < r.1) × (r.1 ≤ length tokens.now)) }
-    ensures err { IfErr result (λ failure. IfAt failure (λ p w. (depth : ℕ) → FailsScalar tokens.now end depth at p w)) }
+    ensures err { IfErr result (λ failure.
+        IfAt failure (λ p w. (depth : ℕ) → FailsScalar tokens.now end depth at p w)) }
 {
     match seen.class {
         Class::Word => Ok((Value::Word(seen.place, text_of(alloc, seen.text)?), at + 1)),
@@ -337,7 +344,8 @@ fn read_text(
     requires quoted { first.class ≡ Class.Quoted }
     ensures ok { IfOk result (λ r. (depth : ℕ) → ReadsValue tokens.now end true depth at r.0 r.1) }
     ensures within { IfOk result (λ r. (at < r.1) × (r.1 ≤ length tokens.now)) }
-    ensures err { IfErr result (λ failure. IfAt failure (λ p w. (depth : ℕ) → FailsScalar tokens.now end depth at p w)) }
+    ensures err { IfErr result (λ failure.
+        IfAt failure (λ p w. (depth : ℕ) → FailsScalar tokens.now end depth at p w)) }
 {
     let (bytes, next) = join(alloc, tokens, end, first.text, at + 1)?;
     match String::from_utf8(bytes) {
@@ -359,7 +367,7 @@ fn join(
     ensures ok { IfOk result (λ r. Joins tokens.now end (spelled first.now) from r.0.items r.1) }
     ensures within { IfOk result (λ r. (from ≤ r.1) × (r.1 ≤ length tokens.now)) }
 {
-    let mut bytes = Vec::new(alloc);
+    let mut bytes = Vec::with_capacity(alloc, first.len())?;
     push_spelled(&mut bytes, first)?;
     let mut at = from;
     while let Some(text) = quoted_text(tokens, at) {

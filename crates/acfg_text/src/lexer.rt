@@ -56,9 +56,12 @@ fn read_tokens<'a>(alloc: Global, source: &'a [u8]) -> Result<Vec<Token<'a>>, Te
 // Where a token of this kind ends that begins here.
 fn token_end(source: &[u8], kind: TokenKind, at: usize) -> Result<usize, TextFault>
     requires { at < length source.now }
-    ensures ok { IfOk result (λ end. token_len kind (slice_index source.now at) at (drop (at + 1) source.now) ≡ Ok (end - (at + 1))) }
+    ensures ok { IfOk result (λ end.
+        token_len kind (slice_index source.now at) at (drop (at + 1) source.now) ≡ Ok (end - (at + 1))) }
     ensures within { IfOk result (λ end. (at < end) × (end ≤ length source.now)) }
-    ensures err { IfErr result (λ failure. IfAt failure (λ p w. token_len kind (slice_index source.now at) at (drop (at + 1) source.now) ≡ Err (fault p w))) }
+    ensures err { IfErr result (λ failure.
+        IfAt failure (λ p w.
+        token_len kind (slice_index source.now at) at (drop (at + 1) source.now) ≡ Err (fault p w))) }
 {
     let text = &source[at + 1..];
     match kind {
@@ -73,7 +76,8 @@ fn quoted_end(at: usize, quote: u8, text: &[u8]) -> Result<usize, TextFault>
     requires { at + 1 + length text.now < 2 ^ 64 }
     ensures ok { IfOk result (λ end. quoted_len at (scan quote 0 0 text.now) ≡ Ok (end - (at + 1))) }
     ensures within { IfOk result (λ end. (at < end) × (end ≤ at + 1 + length text.now)) }
-    ensures err { IfErr result (λ failure. IfAt failure (λ p w. quoted_len at (scan quote 0 0 text.now) ≡ Err (fault p w))) }
+    ensures err { IfErr result (λ failure.
+        IfAt failure (λ p w. quoted_len at (scan quote 0 0 text.now) ≡ Err (fault p w))) }
 {
     match scan_quoted(quote, text) {
         Scan::Closed(length) => Ok(at + 1 + length),

@@ -1,11 +1,14 @@
 //! Trees printed as one line of text.
 
-ghost use Rattle.std.specs.Prelude.{◌≡◌, ◌++◌, ◌∷◌, [], map, IfOk, OnOk, codes};
+ghost use Rattle.std.specs.Prelude.{◌≡◌, ◌++◌, ◌∷◌, [], map, IfOk, OnOk, codes, ℕ, List};
 ghost use Rattle.std.specs.List.{flat_map};
-ghost use Rattle.acfg_text.specs.Printed.{printed_byte, quoted, held, braced, bracketed, separated, shown, printed_item, printed_fields, printed};
+ghost use Rattle.acfg_text.specs.Spells.{Spells};
+ghost use Rattle.acfg_text.specs.Unplaced.{unplaced};
+ghost use Rattle.acfg_text.specs.Printed.{printed_byte, quoted, held, braced, bracketed, separated, shown};
+ghost use Rattle.acfg_text.specs.Printed.{printed_item, printed_fields, printed};
 
+use crate::memory::OutOfMemory;
 use crate::tree::{Item, Tree, Value};
-use acfg_base::OutOfMemory;
 use std::alloc::{AllocError, Global};
 
 /// A tree as one line without a line feed: fields with one space between each two, `name: V`, `name { FIELDS }` or,
@@ -35,6 +38,12 @@ fn print_items(out: &mut Vec<u8>, items: &[Item]) -> Result<(), AllocError>
         }
     }
 }
+
+/// What is printed of the tree that a text spells, spells the same tree, places aside.
+pub fn printed_again()
+    ensures { (text : List ℕ) (read : Tree) → Spells text read
+        → (again : Tree) × Spells (printed read) again × (unplaced again ≡ unplaced read) }
+{}
 
 #[cycle(printing)]
 fn print_item(out: &mut Vec<u8>, item: &Item) -> Result<(), AllocError>
@@ -77,7 +86,8 @@ fn print_list(out: &mut Vec<u8>, values: &[Value]) -> Result<(), AllocError>
 
 #[cycle(printing)]
 fn print_values(out: &mut Vec<u8>, values: &[Value]) -> Result<(), AllocError>
-    ensures { OnOk result (out.new.items ≡ out.old.items ++ separated (codes ", ") (map (λ v. v.text) (map shown values.now))) }
+    ensures { OnOk result (out.new.items ≡ out.old.items
+        ++ separated (codes ", ") (map (λ v. v.text) (map shown values.now))) }
 {
     match values {
         [] => Ok(()),

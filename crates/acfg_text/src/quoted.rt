@@ -1,7 +1,9 @@
 //! Quoted tokens, their escapes, and what they stand for.
 
-ghost use Rattle.std.specs.Prelude.{◌≡◌, ◌+◌, ◌*◌, ◌^◌, ◌++◌, ◌∷◌, [], ◌≤◌, ◌<◌, length, map, option_map, OnOk, if◌then◌else◌, Some, None};
-ghost use Rattle.acfg_text.specs.Escapes.{is_octal, is_hexadecimal, digit_value, is_scalar, digits, number, escape_by, octal, hexadecimal, unicode, escape, within, value_behind, spelled};
+ghost use Rattle.std.specs.Prelude.{◌≡◌, ◌+◌, ◌*◌, ◌^◌, ◌++◌, ◌∷◌, [], ◌≤◌, ◌<◌, length, map, option_map, OnOk};
+ghost use Rattle.std.specs.Prelude.{if◌then◌else◌, Some, None};
+ghost use Rattle.acfg_text.specs.Escapes.{is_octal, is_hexadecimal, digit_value, is_scalar, digits, number, escape_by};
+ghost use Rattle.acfg_text.specs.Escapes.{octal, hexadecimal, unicode, escape, within, value_behind, spelled};
 ghost use Rattle.acfg_text.specs.Scanning.{scan, unknown_escape, is_cut, IsWithin};
 ghost use Rattle.acfg_text.specs.Meanings.{digit_test, base_of, bytes_of, meaning_of, IsFew};
 

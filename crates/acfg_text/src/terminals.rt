@@ -7,8 +7,8 @@ ghost use Rattle.acfg_text.specs.TextFaults.{is_quoted};
 ghost use Rattle.acfg_text.specs.Reading.{ahead, ArePlain, seen_of, NoField, IsNext, SkipsEnd};
 
 use crate::classes::{Bracket, Class};
+use crate::text::Text;
 use crate::token::{Token, TokenKind};
-use acfg_base::Text;
 use std::alloc::{AllocError, Global};
 use std::str;
 
@@ -119,7 +119,7 @@ pub fn text_of(alloc: Global, text: &[u8]) -> Result<Text, AllocError>
     ensures { IfOk result (λ read. read ≡ text.now) }
 {
     match str::from_utf8(text) {
-        Ok(text) => Ok(Text::new(String::from_str(alloc, text)?)),
+        Ok(text) => Ok(Text::copy(alloc, text)?),
         Err(_) => unreachable!(),
     }
 }

@@ -52,14 +52,19 @@ fn read_items(alloc: Global, tokens: &[Token<'_>], end: usize) -> Result<Items<I
 pub fn one_tree()
     ensures read { (text : List ℕ) (read other : Tree) → Spells text read → Spells text other → read ≡ other }
     ensures refused { (text : List ℕ) (place other_place : ℕ) (what other_what : TextWhat)
-        → FirstFault text place what → FirstFault text other_place other_what → (place ≡ other_place) × (what ≡ other_what) }
-    ensures apart { (text : List ℕ) (read : Tree) (place : ℕ) (what : TextWhat) → Spells text read → FirstFault text place what → ⊥ }
-    ensures some { (text : List ℕ) → ((read : Tree) × Spells text read) ⊎ ((place : ℕ) × (what : TextWhat) × FirstFault text place what) }
+        → FirstFault text place what → FirstFault text other_place other_what
+        → (place ≡ other_place) × (what ≡ other_what) }
+    ensures apart { (text : List ℕ) (read : Tree) (place : ℕ) (what : TextWhat) → Spells text read
+        → FirstFault text place what → ⊥ }
+    ensures some { (text : List ℕ)
+        → ((read : Tree) × Spells text read) ⊎ ((place : ℕ) × (what : TextWhat) × FirstFault text place what) }
 {}
 
 /// A text lexes to at most one list of tokens; each is the slice of the text at its place, and places rise.
 pub fn one_lexing()
-    ensures found { (text : List ℕ) (found others : List Lexeme) → Lexes text found → Lexes text others → found ≡ others }
+    ensures found { (text : List ℕ) (found others : List Lexeme) → Lexes text found → Lexes text others
+        → found ≡ others }
     ensures slices { (text : List ℕ) (found : List Lexeme) → Lexes text found → AreSlices text found }
-    ensures rising { (text : List ℕ) (found : List Lexeme) → Lexes text found → Rising 0 (map terminal_of found) (length text) }
+    ensures rising { (text : List ℕ) (found : List Lexeme) → Lexes text found
+        → Rising 0 (map terminal_of found) (length text) }
 {}

@@ -1,4 +1,4 @@
-use Rattle.std.proofs.Common.{◌≡◌, ℕ, ◌+◌, ◌++◌, [], List, length, map, sym, ap, subst, ◌∙◌, arith}
+use Rattle.std.proofs.Common.{◌≡◌, ℕ, ◌+◌, ◌++◌, [], List, length, map, IsPermutation, sym, ap, subst, ◌∙◌, arith}
 use Rattle.std.specs.Prelude.{All}
 use Rattle.std.specs.List.{AllByRecursion, flat_map}
 use Rattle.std.proofs.lemmas.Result.{err_from_is_err_and}
@@ -6,7 +6,9 @@ use Rattle.acfg_decls.specs.declared.flags.Flag.{Flag}
 use Rattle.acfg_decls.specs.Compile.{FailsToCompile, FirstFailsIn, Holds, IfIn, declarations_tests, declared, file_tests, flag_of, sourced}
 use Rattle.acfg_decls.specs.Flags.{IsLawful}
 use Rattle.acfg_decls.specs.Places.{Finds, names}
-use Rattle.acfg_decls.proofs.Distinct.{distinct}
+use Rattle.acfg_decls.proofs.Distinct.{distinct, no_flags_back}
+use Rattle.acfg_decls.proofs.Moved.{moved_on}
+use Rattle.acfg_decls.proofs.Tested.{all_hold}
 use Rattle.acfg_decls.proofs.Numbered.{in_behind, in_front, in_weaker, length-declarations_tests}
 use Rattle.acfg_decls.proofs.compiling.compile.Goals as goal
 
@@ -49,4 +51,20 @@ unreachable-requires c =
     (c.in_ok-set_all.ensures.made container [] (declared files) made)
     (subst (Finds c.declare_all.new.places) (sym c.in_ok-set_all.ensures.names) c.in_ok-declare_all.ensures.finds)
     (c.in_ok-set_all.ensures.lawful (c.in_ok-declare_all.ensures.lawful (none_unlawful _ c.new-flags.ensures.items)))
-    (rw c.in-None.is at c.in_ok-flags.ensures.flags)
+    (no_flags_back _ _ c.in_ok-arrange.ensures (rw c.in-None.is at c.in_ok-flags.ensures.flags))
+
+pub returns-clause-ok : goal.returns-clause-ok
+returns-clause-ok c =
+    let asked = c.args.package.now in
+    let container = c.args.container.now in
+    let files = c.args.declarations.now in
+    let values = c.args.values.now in
+    let made = c.in_ok-declare_all.ensures.flags ∙ ap (λ flags. flags ++ map (flag_of asked container []) (declared files)) c.new-flags.ensures.items in
+    record {
+      passed = all_hold (declarations_tests asked container [] files) (map (file_tests asked (declared files)) values)
+          (subst (λ flags. AllByRecursion (AllByRecursion Holds) (declarations_tests asked container (names flags) files)) c.new-flags.ensures.items c.in_ok-declare_all.ensures.passed)
+          (c.in_ok-set_all.ensures.passed container [] (declared files) made);
+      are = rw c.in-Some.is at c.in_ok-flags.ensures.lawful;
+      same = subst (λ list. IsPermutation list c.in-Some.flags) (c.in_ok-set_all.ensures.made container [] (declared files) made)
+          (moved_on _ _ _ c.in_ok-arrange.ensures (rw c.in-Some.is at c.in_ok-flags.ensures.flags));
+    }
