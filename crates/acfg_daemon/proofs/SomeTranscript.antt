@@ -1,9 +1,17 @@
--- A script has a transcript, where what each file loads is there.
-use Rattle.std.proofs.Common.{ℕ, ◌+◌, List, [], ◌∷◌, ◌++◌, length, Option, None, Some, refl, inl, inr, ⊎_elim}
+-- A script has a transcript.
+use Rattle.std.proofs.Common.{◌≡◌, ℕ, ◌+◌, List, [], ◌∷◌, ◌++◌, length, Option, None, Some, refl, subst, inl, inr, ⊎_elim}
 use Rattle.std.proofs.lemmas.Bool.{cases_lt}
+use Rattle.sha2.specs.Sha256.{sha256}
+use Rattle.acfg_decls.specs.declared.declared.DeclarationsFile.{DeclarationsFile}
+use Rattle.acfg_decls.specs.declared.faults.DeclWhat.TheVariants.{WrongContainer}
+use Rattle.acfg_decls.specs.declared.messages.Message.TheVariants.{FlagDeclarations}
+use Rattle.acfg_decls.specs.Reading.{Declares, declarations_in}
+use Rattle.acfg_decls.specs.Releases.{release}
+use Rattle.acfg_decls.proofs.Exists.{compiles_or_fails}
+use Rattle.acfg_decls.proofs.Unique.{read_or_refused}
 use Rattle.acfg_device.specs.Panel.{Files}
 use Rattle.acfg_model.specs.declared.requests.Loaded.{Loaded}
-use Rattle.acfg_model.specs.declared.requests.Loaded.TheVariants.{Missing}
+use Rattle.acfg_model.specs.declared.requests.Loaded.TheVariants.{Bad, Disagree, Missing, Release}
 use Rattle.acfg_model.specs.declared.requests.Reply.{Reply}
 use Rattle.acfg_model.specs.declared.requests.Request.{Request}
 use Rattle.acfg_model.specs.declared.requests.Request.TheVariants.{Update, Server, Local, Unset, Boot, Get}
@@ -12,7 +20,7 @@ use Rattle.acfg_model.specs.Step.{step}
 use Rattle.acfg_daemon.specs.Lines.{Event, Complete, TooLong, BadLine, IsEvent, IsGood, most_bytes}
 use Rattle.acfg_daemon.specs.Replies.{reply_line}
 use Rattle.acfg_daemon.specs.Requests.{Spells}
-use Rattle.acfg_daemon.specs.Sources.{BytesLoad, FileLoads, Loads, source_path}
+use Rattle.acfg_daemon.specs.Sources.{BytesLoad, FailsFor, FileLoads, Loads, source_path}
 use Rattle.acfg_daemon.specs.Transcript.{bad_line, bad_request, too_long, EventSays, Serves, Transcript}
 
 -- what can't be absent
@@ -26,32 +34,48 @@ by_cases here absent none = absent (λ p. here p none) none
 then : {A B : Type 0} → Some_ A → (A → Some_ B) → Some_ B
 then some f none = some (λ a. f a none)
 
--- some bytes load something, whatever they are
-abbrev pub AllLoad : Type 0
-AllLoad = (container path bytes : List ℕ) → Some_ ((loaded : Loaded) × BytesLoad container path bytes loaded)
+-- declarations that were read compile, or have a first fault
+some_compiled : (container path bytes : List ℕ) (file : DeclarationsFile) → Declares path bytes file → Some_ ((loaded : Loaded) × BytesLoad container path bytes loaded)
+some_compiled container path bytes file declares none =
+    compiles_or_fails file.package.text container (file ∷ []) []
+    (λ flags compiles. none (Release (sha256 bytes) (release flags), (file, flags, declares, compiles, refl, refl)))
+    (λ number place fault first.
+    let fails : FailsFor container file fault = record { number = number; place = place; first = first } in
+    by_cases {P = fault ≡ WrongContainer}
+    (λ is none. none (Disagree, (file, declares, subst (FailsFor container file) is fails)))
+    (λ other none. none (Bad, inr (file, fault, declares, fails, other)))
+    none)
 
-some_file : AllLoad → (container path : List ℕ) (file : Option (List ℕ)) → Some_ ((loaded : Loaded) × FileLoads container path file loaded)
-some_file all container path None none = none (Missing, refl)
-some_file all container path (Some bytes) none = all container path bytes none
+-- all bytes load something
+pub some_bytes : (container path bytes : List ℕ) → Some_ ((loaded : Loaded) × BytesLoad container path bytes loaded)
+some_bytes container path bytes =
+    ⊎_elim
+    (λ read. some_compiled container path bytes (declarations_in path read.0) (read.0, read.1, refl))
+    (λ refused none. none (Bad, inl refused))
+    (read_or_refused FlagDeclarations bytes)
 
-some_load : AllLoad → (files : Files) (request : Request) → Some_ ((loaded : Option Loaded) × Loads files request loaded)
-some_load all files (Update name dir) none = some_file all name (source_path dir) (files (source_path dir)) (λ found. none (Some found.0, found.1))
-some_load all files (Server name «package» flag value) none = none (None, refl)
-some_load all files (Local name «package» flag value) none = none (None, refl)
-some_load all files (Unset name «package» flag) none = none (None, refl)
-some_load all files Boot none = none (None, refl)
-some_load all files (Get name «package» flag) none = none (None, refl)
+some_file : (container path : List ℕ) (file : Option (List ℕ)) → Some_ ((loaded : Loaded) × FileLoads container path file loaded)
+some_file container path None none = none (Missing, refl)
+some_file container path (Some bytes) none = some_bytes container path bytes none
 
-some_serving : AllLoad → (files : Files) (state : State) (text : List ℕ) → Some_ ((after : State) × (reply : Reply) × Serves files state text after reply)
-some_serving all files state text =
+some_load : (files : Files) (request : Request) → Some_ ((loaded : Option Loaded) × Loads files request loaded)
+some_load files (Update name dir) none = some_file name (source_path dir) (files (source_path dir)) (λ found. none (Some found.0, found.1))
+some_load files (Server name «package» flag value) none = none (None, refl)
+some_load files (Local name «package» flag value) none = none (None, refl)
+some_load files (Unset name «package» flag) none = none (None, refl)
+some_load files Boot none = none (None, refl)
+some_load files (Get name «package» flag) none = none (None, refl)
+
+some_serving : (files : Files) (state : State) (text : List ℕ) → Some_ ((after : State) × (reply : Reply) × Serves files state text after reply)
+some_serving files state text =
     by_cases {P = (request : Request) × Spells text request}
-    (λ asked. then (some_load all files asked.0) (λ found none. let made = step state asked.0 found.0 in none (made.0, made.1, inl (asked.0, found.0, asked.1, found.1, refl))))
+    (λ asked. then (some_load files asked.0) (λ found none. let made = step state asked.0 found.0 in none (made.0, made.1, inl (asked.0, found.0, asked.1, found.1, refl))))
     (λ never none. none (state, bad_request, inr (λ request spells. never (request, spells), refl, refl)))
 
-some_answer : AllLoad → (files : Files) (state : State) (event : Event) → Some_ ((after : State) × (said : List ℕ) × EventSays files state event after said)
-some_answer all files state (Complete client text) none = some_serving all files state text (λ served. none (served.0, reply_line client served.1, (served.1, served.2, refl)))
-some_answer all files state (TooLong client) none = none (state, reply_line client too_long, (refl, refl))
-some_answer all files state (BadLine number) none = none (state, bad_line number, (refl, refl))
+some_answer : (files : Files) (state : State) (event : Event) → Some_ ((after : State) × (said : List ℕ) × EventSays files state event after said)
+some_answer files state (Complete client text) none = some_serving files state text (λ served. none (served.0, reply_line client served.1, (served.1, served.2, refl)))
+some_answer files state (TooLong client) none = none (state, reply_line client too_long, (refl, refl))
+some_answer files state (BadLine number) none = none (state, bad_line number, (refl, refl))
 
 some_event : (number : ℕ) (line : List ℕ) → Some_ ((event : Event) × IsEvent number line event)
 some_event number line =
@@ -59,10 +83,10 @@ some_event number line =
     (λ good none. ⊎_elim (λ over. none (TooLong good.0, (good.1, good.2, over))) (λ fits. none (Complete good.0 good.1, (good.2, fits))) (cases_lt most_bytes (length good.1)))
     (λ never none. none (BadLine number, (refl, λ client piece good. never (client, piece, good))))
 
-pub some_transcript : AllLoad → (files : Files) (state : State) (number : ℕ) (lines : List (List ℕ)) → Some_ ((text : List ℕ) × Transcript files state number lines text)
-some_transcript all files state number [] none = none ([], refl)
-some_transcript all files state number (line ∷ lines) none =
+pub some_transcript : (files : Files) (state : State) (number : ℕ) (lines : List (List ℕ)) → Some_ ((text : List ℕ) × Transcript files state number lines text)
+some_transcript files state number [] none = none ([], refl)
+some_transcript files state number (line ∷ lines) none =
     some_event number line (λ event.
-    some_answer all files state event.0 (λ answer.
-    some_transcript all files answer.0 (number + 1) lines (λ rest.
+    some_answer files state event.0 (λ answer.
+    some_transcript files answer.0 (number + 1) lines (λ rest.
     none (answer.1 ++ rest.0, (answer.0, answer.1, rest.0, (event.0, event.1, answer.2), rest.1, refl)))))

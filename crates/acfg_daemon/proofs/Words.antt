@@ -1,13 +1,13 @@
 -- The words of a request, cut apart and joined.
-use Rattle.std.proofs.Common.{◌≡◌, ◌≢◌, ℕ, ◌<◌, Bool, true, false, List, [], ◌∷◌, length, get_or, codes, refl, sym, ◌∙◌, ap, subst, inl, inr, arith, lit<, All, not, ◌⊎◌, Option, None, Some}
-use Rattle.std.specs.List.{join_with_byte, slice_split, AllByRecursion, list_all}
+use Rattle.std.proofs.Common.{◌≡◌, ◌≢◌, ℕ, ◌+◌, ◌<◌, Bool, true, false, List, [], ◌∷◌, length, get_or, codes, refl, sym, ◌∙◌, ap, subst, inl, inr, arith, lit<, All, not, ◌⊎◌, Option, None, Some}
+use Rattle.std.specs.List.{join_with_byte, slice_split, AllByRecursion, list_all, position_or_len, after_first}
 use Rattle.std.specs.Str.{IsUtf8}
 use Rattle.std.proofs.lemmas.List.Splits.{slice_split_none, slice_split_at, join_with_byte-slice_split}
-use Rattle.std.proofs.lemmas.Str.{IsUtf8-nil, IsUtf8-append, IsUtf8-from_ascii}
+use Rattle.std.proofs.lemmas.Str.{IsUtf8-nil, IsUtf8-append, IsUtf8-from_ascii, IsUtf8-drop, IsCharBoundary-after_ascii}
 use Rattle.std.proofs.lemmas.Str.Ascii.{IsAscii-from_reads, IsAscii-from_all, IsAscii-cons, IsAscii-nil}
 use Rattle.std.proofs.lemmas.List.{get_or_default}
-use Rattle.std.proofs.lemmas.List.Sums.{AllPass-from_list_all}
-use Rattle.std.proofs.lemmas.Bool.{ne_eqb}
+use Rattle.std.proofs.lemmas.List.Sums.{AllPass-from_list_all, fails_before_first, passes_at_first}
+use Rattle.std.proofs.lemmas.Bool.{ne_eqb, eqb-true}
 use borrow.Author.Tests.{ltb-true}
 use lib.Dec.{eqb, ltb}
 use Rattle.acfg_base.specs.Names.{AreNames, IsNameByte, dot}
@@ -116,3 +116,16 @@ spelled_from_words text request words = record { lawful = words.lawful; spelled 
 pub Finds-weaker : {A : Type 0} (P Q : A → Type 0) → ((x : A) → P x → Q x) → ((x : A) → Q x → P x) → (found : Option A) → Finds P found → Finds Q found
 Finds-weaker P Q to from None none = λ x holds. none x (from x holds)
 Finds-weaker P Q to from (Some x) holds = to x holds
+
+-- ---- cut at the first space
+
+-- where there is none, the text is one word
+pub last_word : (text : List ℕ) → position_or_len (λ byte. eqb byte space) text ≡ length text → slice_split (λ byte. eqb byte space) text ≡ text ∷ []
+last_word text none = slice_split_none (λ byte. eqb byte space) text (λ k d within. fails_before_first (λ byte. eqb byte space) text k d (subst (λ n. k < n) (sym none) within))
+
+-- what stands behind it is text
+pub text_behind : (text : List ℕ) → IsUtf8 text → position_or_len (λ byte. eqb byte space) text < length text → IsUtf8 (after_first (λ byte. eqb byte space) text)
+text_behind text is some =
+    let place : ℕ = position_or_len (λ byte. eqb byte space) text in
+    let found : get_or text place 0 ≡ space = eqb-true (get_or text place 0) space (passes_at_first (λ byte. eqb byte space) text 0 some) in
+    IsUtf8-drop text (place + 1) is (IsCharBoundary-after_ascii text place is some (subst (λ byte. byte < 128) (sym found) (lit< tt)))

@@ -30,6 +30,10 @@ reply_words Unchanged = codes "unchanged"
 reply_words (Value value) = boot_word value
 reply_words (Refused number) = codes "err " ++ decimal number ++ codes " " ++ refusal_name number
 
--- a client's number and a space before it, and a line feed behind it
+-- a client's number and a space before words, and a line feed behind them
+abbrev pub client_line : ℕ → List ℕ → List ℕ
+client_line client words = decimal client ++ space ∷ (words ++ line_feed ∷ [])
+
+-- the line of a reply to a client
 abbrev pub reply_line : ℕ → Reply → List ℕ
-reply_line client reply = decimal client ++ space ∷ (reply_words reply ++ line_feed ∷ [])
+reply_line client reply = client_line client (reply_words reply)

@@ -29,14 +29,16 @@ pub record FailsFor (container : List ℕ) (file : DeclarationsFile) (fault : De
   pub place : ℕ
   pub first : FailsToCompile file.package.text container (file ∷ []) [] number place fault
 
--- What the bytes at a path load as for a container: its flags behind the SHA-256 digest of the bytes (FIPS 180-4), where they
--- are declarations that compile for it.
+-- What the bytes at a path load as for a container: its flags behind the SHA-256 digest of the bytes (FIPS 180-4),
+-- where they are declarations that compile for it.
 abbrev pub BytesLoad : List ℕ → List ℕ → List ℕ → Loaded → Type 0
 BytesLoad container path bytes Missing = ⊥
 BytesLoad container path bytes Bad =
     ((place : ℕ) × (fault : DeclWhat) × Refuses FlagDeclarations bytes place fault)
-    ⊎ ((file : DeclarationsFile) × (fault : DeclWhat) × Declares path bytes file × FailsFor container file fault × (fault ≢ WrongContainer))
-BytesLoad container path bytes Disagree = (file : DeclarationsFile) × Declares path bytes file × FailsFor container file WrongContainer
+    ⊎ ((file : DeclarationsFile) × (fault : DeclWhat) × Declares path bytes file × FailsFor container file fault
+    × (fault ≢ WrongContainer))
+BytesLoad container path bytes Disagree =
+    (file : DeclarationsFile) × Declares path bytes file × FailsFor container file WrongContainer
 BytesLoad container path bytes (Release digest loaded) =
     (file : DeclarationsFile) × (flags : List Flag) × Declares path bytes file × CompilesFor container file flags
     × (digest ≡ sha256 bytes) × (loaded ≡ release flags)

@@ -51,7 +51,8 @@ pub fn read_line<'a>(line: &'a [u8]) -> Arrived<'a>
 
 // The client's number and the piece of a good line.
 fn good_line<'a>(line: &'a [u8]) -> Option<(u8, &'a [u8])>
-    ensures { Finds (λ (read : ℕ × List ℕ). IsGood line.now read.0 read.1) (option_map (λ read. (read.0, read.1.now)) result) }
+    ensures { Finds (λ (read : ℕ × List ℕ). IsGood line.now read.0 read.1)
+        (option_map (λ read. (read.0, read.1.now)) result) }
 {
     let space = memchr(b' ', line)?;
     let client = client_number(&line[..space])?;

@@ -1,6 +1,7 @@
 //! Scripts answered by the plain machine in memory.
 
-ghost use Rattle.std.specs.Prelude.{◌≡◌, ◌≤◌, ◌++◌, ◌⊎◌, ℕ, List, Option, IfOk, OnOk, OnErr, IsTrue, Result};
+ghost use Rattle.std.specs.Prelude.{◌≡◌, ◌≤◌, ◌++◌, ◌⊎◌, ℕ, List, Option, IfOk, OnOk, OnErr, IsTrue};
+ghost use Rattle.std.specs.Prelude.{string_bytes};
 ghost use Rattle.std.specs.FinMap.{empty};
 ghost use Rattle.acfg_device.specs.Only.{OnlyReads, OnlySays};
 ghost use Rattle.acfg_device.specs.Panel.{Files, SaysPart};
@@ -13,7 +14,7 @@ ghost use Rattle.acfg_daemon.specs.Transcript.{Transcript, Begins, BeginsLine, L
 
 use crate::fault::DaemonFault;
 use crate::lines::{Arrived, read_line, split_line};
-use crate::replies::reply_text;
+use crate::replies::put_reply;
 use crate::requests::parse_request;
 use crate::sources::load;
 use acfg_device::Panel;
@@ -29,7 +30,8 @@ use std::alloc::{AllocError, Global};
 pub fn rehearse<P: Panel>(alloc: Global, panel: &mut P, script: &[u8]) -> Result<(), DaemonFault>
     // Where the panel tells its files and words: with `Ok` the transcript was said; whatever ends the script, a first
     // part of it was said, and a part of each transcript.
-    ensures told { IsTrue P.tells → OnOk result ((text : List ℕ) × Transcript (P.files panel.old) empty 1 (lines script.now) text
+    ensures told { IsTrue P.tells → OnOk result ((text : List ℕ)
+        × Transcript (P.files panel.old) empty 1 (lines script.now) text
         × (P.said panel.new ≡ P.said panel.old ++ text)) }
     ensures begun { IsTrue P.tells → (text : List ℕ) × Begins (P.files panel.old) empty 1 (lines script.now) text
         × (P.said panel.new ≡ P.said panel.old ++ text) }
@@ -40,22 +42,24 @@ pub fn rehearse<P: Panel>(alloc: Global, panel: &mut P, script: &[u8]) -> Result
     ensures says { OnlySays P.Panel panel.old panel.new (result ≡ Err DaemonFault.Device) }
 {
     let mut machine = Machine::new(alloc);
+    let mut reply = String::new(alloc);
     let mut number = 0;
     let mut rest = script;
     while !rest.is_empty() {
         let (line, behind) = split_line(rest);
         number += 1;
-        take_line(alloc, panel, &mut machine, number, line)?;
+        take_line(alloc, panel, &mut machine, &mut reply, number, line)?;
         rest = behind;
     }
     Ok(())
 }
 
-// Answers one line, and says the answer.
+// Answers one line, and says the answer. The text that holds it is kept for the next one.
 fn take_line<P: Panel>(
     alloc: Global,
     panel: &mut P,
     machine: &mut Machine,
+    reply: &mut String,
     number: usize,
     line: &[u8],
 ) -> Result<(), DaemonFault>
@@ -67,42 +71,43 @@ fn take_line<P: Panel>(
         × (P.said panel.new ≡ P.said panel.old ++ part)) }
     ensures says { OnlySays P.Panel panel.old panel.new (result ≡ Err DaemonFault.Device) }
 {
-    let reply = answer(alloc, panel, machine, number, line)?;
-    panel.say(&reply)?;
+    answer(alloc, panel, machine, reply, number, line)?;
+    panel.say(reply.as_bytes())?;
     Ok(())
 }
 
-// The line that answers a line.
+// Gives a text the line that answers a line.
 fn answer<P: Panel>(
     alloc: Global,
     panel: &mut P,
     machine: &mut Machine,
+    reply: &mut String,
     number: usize,
     line: &[u8],
-) -> Result<Vec<u8>, DaemonFault>
-    ensures told { IsTrue P.tells
-        → IfOk result (λ reply. LineSays (P.files panel.old) machine.old number line.now machine.new reply.items) }
+) -> Result<(), DaemonFault>
+    ensures told { IsTrue P.tells → OnOk result
+        (LineSays (P.files panel.old) machine.old number line.now machine.new (string_bytes reply.new)) }
     ensures reads { OnlyReads P.Panel panel.old panel.new (result ≡ Err DaemonFault.Device) }
 {
     match read_line(line) {
-        Arrived::BadLine => Ok(bad_line_text(alloc, number)?),
-        Arrived::TooLong(client) => Ok(reply_text(
-            alloc,
-            client,
-            &Reply::Refused(Refusal::TooLong.number()),
-        )?),
+        Arrived::BadLine => Ok(put_bad_line(reply, number)?),
+        Arrived::TooLong(client) => {
+            let refused = Reply::Refused(Refusal::TooLong.number());
+            Ok(put_reply(alloc, reply, client, &refused)?)
+        }
         Arrived::Complete(client, text) => {
-            let reply = serve(alloc, panel, machine, text)?;
-            Ok(reply_text(alloc, client, &reply)?)
+            let served = serve(alloc, panel, machine, text)?;
+            Ok(put_reply(alloc, reply, client, &served)?)
         }
     }
 }
 
-fn bad_line_text(alloc: Global, number: usize) -> Result<Vec<u8>, AllocError>
-    ensures { IfOk result (λ text. text.items ≡ bad_line number) }
+// Gives a text the line that tells a bad line.
+fn put_bad_line(reply: &mut String, number: usize) -> Result<(), AllocError>
+    ensures { OnOk result (string_bytes reply.new ≡ bad_line number) }
 {
-    let text = format!(in alloc; "? bad-line {number}\n")?;
-    Ok(text.into_bytes())
+    reply.clear();
+    write!(reply, "? bad-line {number}\n")
 }
 
 // The reply to a request's text.
@@ -128,14 +133,15 @@ pub fn one_transcript()
     ensures same { (files : Files) (state : State) (number : ℕ) (lines : List (List ℕ)) (text other : List ℕ)
         → Transcript files state number lines text → Transcript files state number lines other → text ≡ other }
     ensures begins { (files : Files) (state : State) (number : ℕ) (lines : List (List ℕ)) (part text : List ℕ)
-        → Begins files state number lines part → Transcript files state number lines text → (rest : List ℕ) × (text ≡ part ++ rest) }
+        → Begins files state number lines part → Transcript files state number lines text
+        → (rest : List ℕ) × (text ≡ part ++ rest) }
     ensures whole { (files : Files) (state : State) (number : ℕ) (lines : List (List ℕ)) (text : List ℕ)
         → Transcript files state number lines text → Begins files state number lines text }
 {}
 
-/// A script has a transcript, where no bytes are without anything that they load.
+/// It can't be that a script has no transcript, nor that bytes load nothing.
 pub fn some_transcript()
-    ensures { ((container path bytes : List ℕ) → ¬ ((loaded : Loaded) → BytesLoad container path bytes loaded → ⊥))
-        → (files : Files) (state : State) (number : ℕ) (lines : List (List ℕ))
+    ensures loads { (container path bytes : List ℕ) → ¬ ((loaded : Loaded) → BytesLoad container path bytes loaded → ⊥) }
+    ensures script { (files : Files) (state : State) (number : ℕ) (lines : List (List ℕ))
         → ¬ ((text : List ℕ) → Transcript files state number lines text → ⊥) }
 {}

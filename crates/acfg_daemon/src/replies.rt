@@ -1,10 +1,10 @@
 //! Replies: the line of each.
 
-ghost use Rattle.std.specs.Prelude.{◌≡◌, ◌++◌, codes, IfOk, string_bytes};
+ghost use Rattle.std.specs.Prelude.{◌≡◌, [], ◌++◌, codes, IfOk, OnOk, string_bytes};
 ghost use Rattle.std.specs.Fmt.{decimal};
 ghost use Rattle.hex.specs.Hex.{encode_lower};
 ghost use Rattle.acfg_model.specs.Refusals.{refusal_name, IsRefusal};
-ghost use Rattle.acfg_daemon.specs.Replies.{boot_word, reply_line, reply_words, IsNumbered};
+ghost use Rattle.acfg_daemon.specs.Replies.{boot_word, client_line, reply_line, IsNumbered};
 
 use acfg_base::OutOfMemory;
 use acfg_model::{Refusal, Reply};
@@ -16,39 +16,61 @@ pub fn reply_text(alloc: Global, client: u8, reply: &Reply) -> Result<Vec<u8>, O
     requires { IsNumbered reply.now }
     ensures { IfOk result (λ line. line.items ≡ reply_line client reply.now) }
 {
-    let words = words_of_reply(alloc, reply)?;
-    let line = format!(in alloc; "{client} {words}\n")?;
+    let mut line = String::new(alloc);
+    put_reply(alloc, &mut line, client, reply)?;
     Ok(line.into_bytes())
 }
 
-fn words_of_reply(alloc: Global, reply: &Reply) -> Result<String, AllocError>
+/// Gives a text the line of a reply to a client in the place of all that it has.
+pub fn put_reply(
+    alloc: Global,
+    line: &mut String,
+    client: u8,
+    reply: &Reply,
+) -> Result<(), AllocError>
     requires { IsNumbered reply.now }
-    ensures { IfOk result (λ words. string_bytes words ≡ reply_words reply.now) }
+    ensures { OnOk result (string_bytes line.new ≡ reply_line client reply.now) }
 {
+    line.clear();
     match reply {
-        Reply::Fine => String::from_str(alloc, "ok"),
-        Reply::Updated(digest, count) => updated(alloc, digest, *count),
-        Reply::Unchanged => String::from_str(alloc, "unchanged"),
-        Reply::Value(value) => String::from_str(alloc, word_of_value(*value)),
-        Reply::Refused(number) => refused(alloc, *number),
+        Reply::Fine => put_words(line, client, "ok"),
+        Reply::Updated(digest, count) => put_updated(alloc, line, client, digest, *count),
+        Reply::Unchanged => put_words(line, client, "unchanged"),
+        Reply::Value(value) => put_words(line, client, word_of_value(*value)),
+        Reply::Refused(number) => put_refused(line, client, *number),
     }
 }
 
-fn updated(alloc: Global, digest: &[u8; 32], count: u32) -> Result<String, AllocError>
-    ensures { IfOk result (λ words. string_bytes words
-        ≡ codes "updated " ++ encode_lower digest.now ++ codes " " ++ decimal count) }
+fn put_words(line: &mut String, client: u8, words: &str) -> Result<(), AllocError>
+    requires { string_bytes line.old ≡ [] }
+    ensures { OnOk result (string_bytes line.new ≡ client_line client words.now) }
 {
-    let digits = hex::encode(alloc, digest.as_slice())?;
-    format!(in alloc; "updated {digits} {count}")
+    write!(line, "{client} {words}\n")
 }
 
-fn refused(alloc: Global, number: u8) -> Result<String, AllocError>
-    requires { IsRefusal number }
-    ensures { IfOk result (λ words. string_bytes words
-        ≡ codes "err " ++ decimal number ++ codes " " ++ refusal_name number) }
+fn put_updated(
+    alloc: Global,
+    line: &mut String,
+    client: u8,
+    digest: &[u8; 32],
+    count: u32,
+) -> Result<(), AllocError>
+    requires { string_bytes line.old ≡ [] }
+    ensures { OnOk result (string_bytes line.new
+        ≡ client_line client (codes "updated " ++ encode_lower digest.now ++ codes " " ++ decimal count)) }
+{
+    let digits = hex::encode(alloc, digest.as_slice())?;
+    write!(line, "{client} updated {digits} {count}\n")
+}
+
+fn put_refused(line: &mut String, client: u8, number: u8) -> Result<(), AllocError>
+    requires empty { string_bytes line.old ≡ [] }
+    requires numbered { IsRefusal number }
+    ensures { OnOk result (string_bytes line.new
+        ≡ client_line client (codes "err " ++ decimal number ++ codes " " ++ refusal_name number)) }
 {
     let name = name_of_refusal(number);
-    format!(in alloc; "err {number} {name}")
+    write!(line, "{client} err {number} {name}\n")
 }
 
 fn word_of_value(value: Option<bool>) -> &'static str

@@ -13,6 +13,9 @@ use acfg_model::Request;
 use std::alloc::{AllocError, Global};
 use std::str;
 
+// The most words of a request; a text may have more.
+const MOST_WORDS: usize = 5;
+
 /// The first word of a request.
 #[derive(Clone, Copy, Debug)]
 enum Verb {
@@ -50,7 +53,14 @@ pub fn parse_request(alloc: Global, bytes: &[u8]) -> Result<Option<Request>, Out
 fn split_words<'a>(alloc: Global, text: &'a str) -> Result<Vec<&'a str>, AllocError>
     ensures { IfOk result (λ words. map (λ word. word.now) words.items ≡ slice_split (λ byte. byte == space) text.now) }
 {
-    text.split(' ').collect(alloc)
+    let mut words = Vec::with_capacity(alloc, MOST_WORDS)?;
+    let mut rest = text;
+    while let Some((word, behind)) = rest.split_once(' ') {
+        words.push(word)?;
+        rest = behind;
+    }
+    words.push(rest)?;
+    Ok(words)
 }
 
 fn read_words(alloc: Global, words: &[&str]) -> Result<Option<Request>, OutOfMemory>
@@ -187,7 +197,8 @@ fn read_key(
     package: &str,
     flag: &str,
 ) -> Result<Option<Key>, OutOfMemory>
-    ensures { IfOk result (λ found. SomeIff found (IsContainer container.now × IsPackage «package».now × IsName flag.now)
+    ensures { IfOk result (λ found. SomeIff found
+        (IsContainer container.now × IsPackage «package».now × IsName flag.now)
         (record { container = container.now; «package» = «package».now; flag = flag.now })) }
 {
     let Some(container) = ContainerName::parse(alloc, container)? else {

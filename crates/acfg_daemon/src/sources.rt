@@ -43,7 +43,8 @@ fn load_directory<P: Panel>(
     container: &ContainerName,
     dir: &str,
 ) -> Result<Loaded, DaemonFault>
-    ensures told { IsTrue P.tells → IfOk result (FileLoads container.now (source_path dir.now) (P.files panel.old (source_path dir.now))) }
+    ensures told { IsTrue P.tells → IfOk result
+        (FileLoads container.now (source_path dir.now) (P.files panel.old (source_path dir.now))) }
     ensures fits { IfOk result Fits }
     ensures reads { OnlyReads P.Panel panel.old panel.new (result ≡ Err DaemonFault.Device) }
 {

@@ -1,3 +1,4 @@
 pub mod Buckets
 pub mod Hasher
 pub mod SipHash
+pub mod Word

@@ -9,6 +9,7 @@ mod siphash;
 mod state;
 #[cfg(test)]
 mod tests;
+mod word;
 
 pub use buckets::{bucket, flag_bucket, table_size};
 pub use siphash::sip;

@@ -80,19 +80,6 @@ impl State {
         state
     }
 
-    /// The state with the whole groups of eight bytes in it, and the bytes behind them.
-    pub(crate) fn compress_words<const C: usize>(mut self, bytes: &[u8]) -> (State, &[u8])
-        ensures state { result.0 ≡ fold (spec.compressed C) self (spec.whole_words bytes.now) }
-        ensures rest { result.1.now ≡ spec.partial_group bytes.now }
-    {
-        let mut rest = bytes;
-        while let Some((group, behind)) = rest.split_first_chunk::<8>() {
-            self = self.compress::<C>(u64::from_le_bytes(*group));
-            rest = behind;
-        }
-        (self, rest)
-    }
-
     /// The hash, after `D` rounds.
     #[tactic(auto, unfolding(crate::specs::SipHash::finalized))]
     pub(crate) fn finalize<const D: usize>(mut self) -> u64

@@ -4,15 +4,15 @@ use Rattle.acfg_daemon.specs.Replies.{reply_line}
 use Rattle.acfg_daemon.specs.Lines.{Complete, TooLong, BadLine}
 use Rattle.acfg_daemon.proofs.rehearsal.answer.Goals as goal
 
-pub returns-in_ok-bad_line_text-in-BadLine-clause-told : goal.returns-in_ok-bad_line_text-in-BadLine-clause-told
-returns-in_ok-bad_line_text-in-BadLine-clause-told g c tells = (BadLine c.args.number, c.in-BadLine.ensures c.args.number, (refl, c.in_ok-bad_line_text-in-BadLine.ensures))
+pub returns-in_ok-put_bad_line-in-BadLine-clause-told : goal.returns-in_ok-put_bad_line-in-BadLine-clause-told
+returns-in_ok-put_bad_line-in-BadLine-clause-told g c tells = (BadLine c.args.number, c.in-BadLine.ensures c.args.number, (refl, c.in_ok-put_bad_line-in-BadLine.ensures))
 
-pub returns-in_ok-reply_text-in-TooLong-clause-told : goal.returns-in_ok-reply_text-in-TooLong-clause-told
-returns-in_ok-reply_text-in-TooLong-clause-told g c tells = (TooLong c.in-TooLong.client, c.in-TooLong.ensures c.args.number, (refl, c.in_ok-reply_text-in-TooLong.ensures ∙ ap (λ n. reply_line c.in-TooLong.client (Refused n)) c.number.ensures))
+pub returns-in_ok-put_reply-in-TooLong-clause-told : goal.returns-in_ok-put_reply-in-TooLong-clause-told
+returns-in_ok-put_reply-in-TooLong-clause-told g c tells = (TooLong c.in-TooLong.client, c.in-TooLong.ensures c.args.number, (refl, c.in_ok-put_reply-in-TooLong.ensures ∙ ap (λ n. reply_line c.in-TooLong.client (Refused n)) c.number.ensures))
 
-pub returns-in_ok-reply_text-in-Complete-clause-told : goal.returns-in_ok-reply_text-in-Complete-clause-told
-returns-in_ok-reply_text-in-Complete-clause-told g c tells = (
+pub returns-in_ok-put_reply-in-Complete-clause-told : goal.returns-in_ok-put_reply-in-Complete-clause-told
+returns-in_ok-put_reply-in-Complete-clause-told g c tells = (
   Complete c.in-Complete.client c.in-Complete.text.now,
   c.in-Complete.ensures c.args.number,
-  (c.in_ok-reply-in-Complete.reply, c.in_ok-reply-in-Complete.ensures.told tells, c.in_ok-reply_text-in-Complete.ensures),
+  (c.in_ok-served-in-Complete.served, c.in_ok-served-in-Complete.ensures.told tells, c.in_ok-put_reply-in-Complete.ensures),
 )

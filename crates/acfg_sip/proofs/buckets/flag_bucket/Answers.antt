@@ -8,4 +8,4 @@ returns-clause-value c =
     let id : c.as_bytes.result.now ≡ decimal c.args.package_id = c.as_bytes.ensures.value ∙ c.format.ensures.text in
     let prefix : List ℕ = c.as_bytes.result.now ++ codes "/" in
     rw (← id) (c.bucket_of.ensures.value (prefix ++ c.args.flag.now)
-    (c.write-2.ensures start prefix (c.push.ensures.holds start c.as_bytes.result.now (c.write.ensures start [] c.new-hasher.ensures))))
+    (c.write-2.ensures start prefix (c.push.ensures start c.as_bytes.result.now (c.write.ensures start [] c.new-hasher.ensures))))
