@@ -9,3 +9,4 @@ pub mod Answer
 pub mod Outcomes
 pub mod Put
 pub mod Shortest
+mod LaidFacts

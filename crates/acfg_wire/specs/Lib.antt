@@ -3,3 +3,4 @@ pub mod Fields
 pub mod Faults
 pub mod Outcome
 pub mod Reading
+pub mod Laid

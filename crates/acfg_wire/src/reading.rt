@@ -1,8 +1,9 @@
 //! Bytes read as a list of fields.
 
-ghost use Rattle.std.specs.Prelude.{◌≡◌, ◌⊎◌, ℕ, List, IfOk, IfErr, MatchResult, IsErrOf, Err};
+ghost use Rattle.std.specs.Prelude.{◌≡◌, ◌⊎◌, ℕ, List, IfOk, IfErr, MatchResult, IsErrOf, Ok, Err};
 ghost use Rattle.acfg_wire.specs.Fields.{WireField, IsFields, BeginAt, ValuesLieIn, value_of, field_of, fields_of, places_of};
 ghost use Rattle.acfg_wire.specs.Outcome.{IsOutcome};
+ghost use Rattle.acfg_wire.specs.Laid.{laid, laid_of};
 ghost use Rattle.acfg_wire.specs.Reading.{ReadsAs, varint_at, front_at, value_at, field_at};
 
 use crate::fault::{Fault, WireFault};
@@ -111,6 +112,10 @@ pub fn read_fields(alloc: Global, bytes: &[u8]) -> Result<Vec<Field<'_>>, WireFa
     // The first fault is told, unless memory runs out.
     ensures tells_fault { (fault : WireFault) → IsOutcome bytes.now (Err fault)
         → IsErrOf result fault ⊎ IsErrOf result WireFault.OutOfMemory }
+
+    // The same as one function of the bytes.
+    ensures laid { MatchResult result (λ read. laid bytes.now ≡ Ok (laid_of read.items))
+        (λ fault. (fault ≡ WireFault.OutOfMemory) ⊎ (laid bytes.now ≡ Err fault)) }
 {
     let mut fields = Vec::new(alloc);
     let mut rest = bytes;
