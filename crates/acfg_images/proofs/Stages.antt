@@ -1,5 +1,5 @@
 -- One step of the check behind another.
-use Rattle.std.proofs.Common.{◌≡◌, ℕ, ◌+◌, ◌*◌, ◌<◌, ◌≤◌, ◌^◌, List, length, drop, map, Option, Some, None, Result, Ok, Err, ◌⊎◌, inl, inr, Bool, true, false, cond, ltb, ◌-◌, refl, sym, ap, subst, ◌∙◌, arith}
+use Rattle.std.proofs.Common.{◌≡◌, ℕ, ◌≤◌, ◌^◌, List, length, drop, map, Option, Some, None, Result, Ok, Err, ◌⊎◌, inl, inr, Bool, true, false, cond, ltb, ◌-◌, refl, sym, ap, ◌∙◌}
 use Rattle.acfg_views.specs.Layout.{Package, Flag, package_map_type, flag_map_type, flag_val_type, flag_info_type}
 use Rattle.acfg_views.specs.Reading.{OpenMap, OpenList, opened_map, opened_list, bucket_count, package_at, flag_at, package_of, flag_of}
 use Rattle.acfg_views.specs.declared.nodes.PackageNode.{PackageNode}
@@ -94,11 +94,11 @@ done o = Ok o
 ok_is : (x y : Opened) → done x ≡ done y → x ≡ y
 ok_is x y e = cc
 
-bind_ok : {A B : Type 0} (r : Result A ImageFault) (f : A → Result B ImageFault) (y : B) → (r >>= f) ≡ Ok y → (x : A) × (r ≡ Ok x) × (f x ≡ Ok y)
+pub bind_ok : {A B : Type 0} (r : Result A ImageFault) (f : A → Result B ImageFault) (y : B) → (r >>= f) ≡ Ok y → (x : A) × (r ≡ Ok x) × (f x ≡ Ok y)
 bind_ok (Ok x) f y e = (x, refl, e)
 bind_ok (Err d) f y e = absurd cc
 
-view_ok : {A : Type 0} (file : FileType) (r : Result A ViewFault) (x : A) → view_of file r ≡ Ok x → r ≡ Ok x
+pub view_ok : {A : Type 0} (file : FileType) (r : Result A ViewFault) (x : A) → view_of file r ≡ Ok x → r ≡ Ok x
 view_ok file (Ok a) x e = let h : a ≡ x = cc in ap (λ (b : _). Ok b) h
 view_ok file (Err f) x e = absurd cc
 

@@ -1,11 +1,11 @@
 -- Tables of marks, starts and counts, as loops fill them.
-use Rattle.std.proofs.Common.{◌≡◌, ◌≢◌, ℕ, suc, ◌+◌, ◌-◌, ◌^◌, ◌<◌, ◌≤◌, Bool, true, false, cond, eqb, ltb, not, ◌||◌, ◌&&◌, List, [], ◌∷◌, ◌++◌, length, get_or, set, take, drop, map, Option, Some, None, Result, Ok, Err, refl, sym, ap, subst, ◌∙◌, arith, inl, inr, add-one}
-use Rattle.std.specs.Prelude.{find, count_by, unwrap_or, IfOk}
+use Rattle.std.proofs.Common.{◌≡◌, ◌≢◌, ℕ, suc, ◌+◌, ◌^◌, ◌<◌, ◌≤◌, Bool, true, false, cond, eqb, ltb, not, ◌||◌, ◌&&◌, List, [], ◌∷◌, ◌++◌, length, get_or, set, take, drop, map, Option, Some, None, Result, Ok, Err, refl, sym, ap, subst, ◌∙◌, arith, inl, inr, add-one}
+use Rattle.std.specs.Prelude.{IfOk}
 use Rattle.std.specs.Option.{option_map}
 use Rattle.std.specs.List.{list_any, list_all}
 use Rattle.std.proofs.lemmas.Bool.{cases_eq, cases_lt}
 use Rattle.std.proofs.lemmas.Bool.Decides.{nat_tests}
-use Rattle.std.proofs.lemmas.List.{drop_all, take_all, take_more, map_push, length-append, length-take, get_or-set_same, get_or-set_other, get_or_past, length-set}
+use Rattle.std.proofs.lemmas.List.{drop_all, take_all, take_more, map_push, length-take, get_or-set_same, get_or-set_other, get_or_past, length-set}
 use Rattle.std.proofs.lemmas.List.Folds.{list_any-append, list_all-append}
 use Rattle.std.proofs.lemmas.List.Sums.{count_by-le-length, count_by_more_yes, count_by_more_no}
 use Rattle.std.proofs.Math.Seq.{drop-cons}
@@ -22,7 +22,7 @@ use Rattle.acfg_images.specs.Faults.{or_else, stray_id, having, id_fault, index_
 use Rattle.acfg_images.specs.declared.fault.ImageFault.{ImageFault}
 use Rattle.acfg_images.proofs.Least.{least-same}
 use Rattle.acfg_images.specs.Code.{table_index, bit_agrees, kind_fits, misfit, unmarked, kind_fault_by, HasStarts}
-use Rattle.acfg_images.specs.Set.{index_of, start_of, package_with}
+use Rattle.acfg_images.specs.Set.{index_of, start_of}
 
 equal : {a b : ℕ} → a ≡ b → eqb a b ≡ true
 equal {a} {b} e = grind (arith, nat_tests)

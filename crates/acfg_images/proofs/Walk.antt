@@ -1,10 +1,10 @@
 -- Reading nodes one after another, as a loop does.
-use Rattle.std.proofs.Common.{◌≡◌, ℕ, zero, suc, ◌+◌, ◌-◌, ◌<◌, ◌≤◌, ◌≢◌, Bool, true, false, cond, ltb, List, [], ◌∷◌, ◌++◌, length, take, drop, map, Result, Ok, Err, refl, sym, ap, subst, ◌∙◌, append_assoc, arith, add-one}
-use Rattle.std.proofs.lemmas.Bool.{le-ltb, ltb-false}
+use Rattle.std.proofs.Common.{◌≡◌, ℕ, zero, suc, ◌+◌, ◌-◌, ◌<◌, ◌≤◌, ◌≢◌, false, ltb, List, [], ◌∷◌, ◌++◌, length, drop, map, Result, Ok, Err, refl, sym, ap, subst, ◌∙◌, append_assoc, arith}
+use Rattle.std.proofs.lemmas.Bool.{le-ltb}
 use Rattle.std.proofs.lemmas.List.{append-nil, length-append, length-drop, drop_at, drop-drop}
 use Rattle.acfg_views.specs.declared.fault.ViewFault.{ViewFault}
 use Rattle.acfg_views.specs.Fields.{IsBytes}
-use Rattle.acfg_views.specs.Reading.{OpenMap, IsOpenMap, node_at, with_end, opened_map}
+use Rattle.acfg_views.specs.Reading.{OpenMap, IsOpenMap, node_at, with_end}
 use Rattle.acfg_views.proofs.FileFacts.{opened_map-offsets}
 use Rattle.acfg_views.proofs.Exact.{IsExact, IsBytes-drop, bind_ok}
 use Rattle.acfg_images.specs.Links.{NodeKey, Link, links_from}

@@ -1,22 +1,20 @@
 -- The first fault of four files, in the order in which it is told: sizes, headers, nodes with their buckets and links
 -- (package.map and then flag.map), bits, and what has to agree.
 use Rattle.std.specs.Prelude.{◌≡◌, ℕ, zero, suc, ◌+◌, ◌-◌, ◌*◌, ◌^◌, List, [], ◌∷◌, ◌++◌, length, map, drop, min}
-use Rattle.std.specs.Prelude.{count_by, slice_index, Bool, true, false, nat_lt, nat_le, ◌==◌, ◌&&◌, ◌||◌, not, Option}
-use Rattle.std.specs.Prelude.{Some, None, Result, Ok, Err, unwrap_or, if◌then◌else◌}
+use Rattle.std.specs.Prelude.{count_by, slice_index, Bool, true, false, nat_lt, ◌==◌, ◌||◌, not, Option}
+use Rattle.std.specs.Prelude.{Some, None, Result, Ok, Err, if◌then◌else◌}
 use Rattle.std.specs.List.{list_any, list_all}
 use Rattle.std.specs.Option.{option_map}
 use Rattle.std.specs.Str.{bytes_eq}
-use Rattle.acfg_base.specs.declared.releases.Kind.{Kind}
 use Rattle.acfg_views.specs.declared.fault.ViewFault.{ViewFault}
 use Rattle.acfg_views.specs.Fields.{numbers}
-use Rattle.acfg_views.specs.Layout.{Package, Flag, MapParts, package_map_type, flag_map_type, flag_val_type}
+use Rattle.acfg_views.specs.Layout.{Package, Flag, package_map_type, flag_map_type, flag_val_type}
 use Rattle.acfg_views.specs.Layout.{flag_info_type}
 use Rattle.acfg_views.specs.Reading.{OpenMap, OpenList, opened_map, opened_list, package_at, flag_at, bucket_count}
 use Rattle.acfg_views.specs.Reading.{byte_in}
 use Rattle.acfg_views.specs.Parts.{parts_of, list_parts_of}
 use Rattle.acfg_images.specs.declared.fault.FileType.{FileType}
 use Rattle.acfg_images.specs.declared.fault.FileType.TheVariants.{PackageMap, FlagMap, FlagVal, FlagInfo}
-use Rattle.acfg_images.specs.declared.fault.Point2.{Point2}
 use Rattle.acfg_images.specs.declared.fault.Point2.TheVariants.{Container, Id, Count, Index}
 use Rattle.acfg_images.specs.declared.fault.Point2.TheVariants as on
 use Rattle.acfg_images.specs.declared.fault.ImageFault.{ImageFault}

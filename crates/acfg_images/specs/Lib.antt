@@ -3,6 +3,12 @@ pub mod Words
 pub mod Links
 pub mod Set
 pub mod Image
+pub mod Build
+pub mod Building
 pub mod Faults
 pub mod Code
 pub mod Views
+pub mod Laws
+pub mod Restamp
+pub mod Listing
+pub mod Twins

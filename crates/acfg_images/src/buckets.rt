@@ -4,10 +4,12 @@ ghost use Rattle.std.specs.Prelude.{◌≡◌, ◌<◌, ◌+◌, ◌*◌, ◌^�
 ghost use Rattle.acfg_views.specs.Reading.{bucket_count};
 ghost use Rattle.acfg_images.specs.Faults.{buckets_in, wrong_links};
 ghost use Rattle.acfg_images.specs.Code.{HaveBuckets, links_of};
+ghost use Rattle.acfg_images.specs.Twins.{Rise};
 
-use crate::chains::{first_twice, first_wrong};
+use crate::chains::first_wrong;
 use crate::fault::{FileType, ImageFault};
 use crate::links::NodeLink;
+use crate::twins::first_twice;
 use acfg_views::{FlagMap, PackageMap};
 use std::alloc::{AllocError, Global};
 
@@ -62,6 +64,7 @@ pub(crate) fn links_fault(
     requires buckets { HaveBuckets (length buckets.now) links.now }
     requires some { 0 < length buckets.now }
     requires room { first_bucket + 4 * length buckets.now < 2 ^ 32 }
+    requires rising { Rise (links_of links.now) }
     ensures { IfOk result (λ fault. fault ≡ wrong_links file first_bucket buckets.now (links_of links.now)) }
 {
     if let Some(at) = first_twice(alloc, links)? {

@@ -1,29 +1,14 @@
-//! Keys, buckets and links of a map.
+//! Buckets and links of a map.
 
 ghost use Rattle.std.specs.Prelude.{◌≡◌, ◌^◌, ◌<◌, ◌+◌, ◌*◌, IfOk, EachIndex, length, slice_index, slice_set, ◌==◌};
 ghost use Rattle.std.specs.Prelude.{not, IfSome};
 ghost use Rattle.acfg_images.specs.Words.{least};
 ghost use Rattle.acfg_images.specs.Links.{first_in};
-ghost use Rattle.acfg_images.specs.Faults.{twice, wrong_chain, wrong_next as next_fault};
-ghost use Rattle.acfg_images.specs.Code.{HaveBuckets, KnowBuckets, links_of};
+ghost use Rattle.acfg_images.specs.Faults.{wrong_chain, wrong_next as next_fault};
+ghost use Rattle.acfg_images.specs.Code.{HaveBuckets, links_of};
 
 use crate::links::NodeLink;
 use std::alloc::{AllocError, Global};
-use std::collections::BTreeSet;
-
-/// Where the first node stands whose key an earlier node has.
-pub(crate) fn first_twice(alloc: Global, links: &[NodeLink<'_>]) -> Result<Option<u32>, AllocError>
-    requires { KnowBuckets links.now }
-    ensures { IfOk result (λ at. at ≡ twice (links_of links.now)) }
-{
-    let mut keys = BTreeSet::new(alloc);
-    for link in links {
-        if !keys.insert((link.bucket, link.owner, link.name))? {
-            return Ok(Some(link.at));
-        }
-    }
-    Ok(None)
-}
 
 /// The first bucket, at its own place, that doesn't hold where its first node stands, or else where the first node
 /// stands whose next isn't that of the next node of its bucket.

@@ -3,6 +3,7 @@
 ghost use Rattle.std.specs.Prelude.{◌≡◌, ◌==◌, ◌<◌};
 ghost use Rattle.acfg_views.specs.Reading.{byte_in};
 
+use crate::set::ImageSet;
 use crate::views::Views;
 use acfg_views::{FlagMap, PackageMap};
 use std::marker::Model;
@@ -10,29 +11,50 @@ use std::marker::Model;
 /// A set in which no fault stands. Contracts see the four files, opened.
 #[derive(Debug, Drop)]
 pub struct Checked<'a> {
+    set: &'a ImageSet,
     views: Views<'a>,
 }
 
 impl<'a> Model for Checked<'a> {
-    ghost use Rattle.acfg_images.specs.Faults.{Opened, HasNoFault};
-    ghost use Rattle.acfg_images.specs.Views.{opened_of};
+    ghost use Rattle.acfg_images.specs.Faults.{Opened};
+    ghost use Rattle.acfg_images.specs.Views.{opened_of, IsCheckedSet};
 
     ghost Value = { Opened };
 
     ghost view = { λ it. opened_of it.views };
 
-    ghost invariant = { λ it. HasNoFault (opened_of it.views) };
+    ghost invariant = { λ it. IsCheckedSet it.set.now (opened_of it.views) };
 }
 
 impl<'a> Checked<'a> {
-    ghost use Rattle.acfg_images.specs.Faults.{HasNoFault};
-    ghost use Rattle.acfg_images.specs.Views.{opened_of};
+    ghost use Rattle.acfg_images.specs.Faults.{HasNoFault, files_in};
+    ghost use Rattle.acfg_images.specs.Laws.{AreBytes};
+    ghost use Rattle.acfg_images.specs.Views.{opened_of, AreOpenFiles};
 
-    pub(crate) fn new(views: Views<'a>) -> Checked<'a>
-        requires { HasNoFault (opened_of views) }
+    pub(crate) fn new(set: &'a ImageSet, views: Views<'a>) -> Checked<'a>
+        requires faultless { HasNoFault (opened_of views) }
+        requires files { set.now ≡ files_in (opened_of views) }
         ensures { result ≡ opened_of views.entry }
     {
-        Checked { views }
+        Checked { set, views }
+    }
+
+    /// The files that were checked.
+    pub(crate) fn set(&self) -> &'a ImageSet
+        ensures files { result.now ≡ files_in self.now }
+        ensures checked { HasNoFault self.now }
+    {
+        self.set
+    }
+
+    // The files are open, as each view tells.
+    pub(crate) fn are_open(&self)
+        ensures { AreOpenFiles self.now }
+    {
+        let _buckets = self.views.package_map.buckets();
+        let _buckets = self.views.flag_map.buckets();
+        let _count = self.views.values.count();
+        let _count = self.views.infos.count();
     }
 
     /// The name of the container, a slice of `package.map`.
@@ -43,9 +65,11 @@ impl<'a> Checked<'a> {
         self.views.package_map.container()
     }
 
-    /// How many flags there are.
+    /// How many flags there are: as many values, and as many bits.
     pub fn count(&self) -> u32
-        ensures { result ≡ self.now.flag_map.count }
+        ensures flags { result ≡ self.now.flag_map.count }
+        ensures values { result ≡ self.now.values.count }
+        ensures bits { result ≡ self.now.infos.count }
     {
         self.views.flag_map.count()
     }

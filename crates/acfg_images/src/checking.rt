@@ -2,6 +2,7 @@
 
 ghost use Rattle.std.specs.Prelude.{◌≡◌, Ok};
 ghost use Rattle.acfg_images.specs.Faults.{checked, opened_set, too_large};
+ghost use Rattle.acfg_images.specs.Laws.{TellsSets};
 ghost use Rattle.acfg_images.specs.Code.{Tells};
 ghost use Rattle.acfg_images.specs.Views.{Answers, opened_of};
 
@@ -20,15 +21,23 @@ use std::sync::ledger::{Blank, Ledger};
 /// The most bytes that the four files have together.
 const MOST_BYTES: u64 = 4_194_304;
 
-/// Checks a set for a use.
+/// Checks a set for a use. The answer is `Ok` exactly where the files are a set of some release and notes, which it
+/// then determines, want of memory aside.
 ///
 /// # Errors
 ///
 /// The first fault in the order of `ImageFault`, with its file and numbers.
 pub fn check(alloc: Global, set: &ImageSet, purpose: Use) -> Result<Checked<'_>, ImageFault>
-    ensures { Tells (λ it. it) result (checked purpose set.now) }
+    ensures first { Tells (λ it. it) result (checked purpose set.now) }
+    ensures sets { TellsSets purpose set.now result }
 {
-    check_counted::<Brand>(alloc, set, purpose, Blank::new(1))
+    match check_counted::<Brand>(alloc, set, purpose, Blank::new(1)) {
+        Ok(checked) => {
+            checked.are_open();
+            Ok(checked)
+        }
+        Err(fault) => Err(fault),
+    }
 }
 
 fn check_counted<L: Ledger>(
@@ -75,7 +84,7 @@ fn check_views<'a, L: Ledger>(
     let flags = check_flags(alloc, &views.flag_map, size, steps)?;
     match find_behind_maps(alloc, &views, purpose, &packages.nodes, &flags.nodes)? {
         Some(fault) => Err(fault),
-        None => Ok(Checked::new(views)),
+        None => Ok(Checked::new(set, views)),
     }
 }
 

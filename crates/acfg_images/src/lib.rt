@@ -6,24 +6,33 @@
 mod agree;
 mod bits;
 mod buckets;
+mod building;
 mod chains;
 mod checked;
 mod checking;
 mod digests;
 mod disagree;
 mod fault;
+mod laws;
 mod links;
 mod maps;
 mod nodes;
 mod purpose;
+mod releases;
+mod restamping;
 mod set;
+mod twins;
 mod views;
 
+pub use building::{BuildFault, MOST_FLAGS, build};
 pub use checked::Checked;
 pub use checking::check;
 pub use digests::digest;
 pub use fault::{FileType, ImageFault, Point2};
+pub use laws::faultless_are_sets;
 pub use purpose::Use;
+pub use releases::flags_of;
+pub use restamping::restamp;
 pub use set::ImageSet;
 
 #[cfg(test)]

@@ -1,6 +1,7 @@
 //! A set's files and digest, and the check of a small set whose buckets were computed by hand.
 
 use super::*;
+use acfg_base::Kind;
 use acfg_views::ViewFault;
 use std::alloc::{AllocError, Global};
 use std::test::Fail;
@@ -143,6 +144,160 @@ fn the_first_fault_is_told(rt: HostRuntime) -> Result<(), Fail> {
         );
     }
     Ok(())
+}
+
+/// `package.map` of container `c` with the one package `com.a`, in one bucket.
+const ONE_PACKAGE: &[u8; 51] =
+    b"\x01\0\0\0\x01\0\0\0c\0\x33\0\0\0\x01\0\0\0\x1a\0\0\0\x1e\0\0\0\x1e\0\0\0\x05\0\0\0com.a\0\0\
+    \0\0\0\0\0\0\0\0\0\0";
+
+/// `flag.map` with the flags `f` and `g` in one bucket. The second is read-only.
+const TWO_FLAGS: &[u8; 64] =
+    b"\x01\0\0\0\x01\0\0\0c\x01\x40\0\0\0\x02\0\0\0\x1a\0\0\0\x1e\0\0\0\x1e\0\0\0\0\0\0\0\x01\0\0\0f\0\
+    \0\0\0\x2f\0\0\0\0\0\0\0\x01\0\0\0g\x01\0\x01\0\0\0\0\0";
+
+/// `flag.val`, where the second is true.
+const TWO_VALUES: &[u8; 24] = b"\x01\0\0\0\x01\0\0\0c\x02\x18\0\0\0\x02\0\0\0\x16\0\0\0\0\x01";
+
+/// `flag.info`, without notes.
+const TWO_INFOS: &[u8; 24] = b"\x01\0\0\0\x01\0\0\0c\x03\x18\0\0\0\x02\0\0\0\x16\0\0\0\x02\0";
+
+/// What a release is told where two bytes of the two flags' files are others: of `flag.map`, and of the file that is
+/// named. Where both changes are faults, the one that comes first in the order is told.
+const CHANGED_TWICE: [(usize, u8, FileType, usize, u8, Option<ImageFault>); 7] = [
+    (0, 1, FileType::FlagVal, 0, 1, None),
+    (
+        55,
+        b'f',
+        FileType::FlagVal,
+        0,
+        1,
+        Some(ImageFault::Twice(FileType::FlagMap, 47)),
+    ),
+    (
+        55,
+        b'f',
+        FileType::FlagVal,
+        22,
+        2,
+        Some(ImageFault::Twice(FileType::FlagMap, 47)),
+    ),
+    (
+        43,
+        0,
+        FileType::PackageMap,
+        26,
+        0,
+        Some(ImageFault::Chain(FileType::PackageMap, 26)),
+    ),
+    (
+        26,
+        0,
+        FileType::FlagVal,
+        8,
+        b'd',
+        Some(ImageFault::Chain(FileType::FlagMap, 26)),
+    ),
+    (
+        47,
+        1,
+        FileType::PackageMap,
+        0,
+        1,
+        Some(ImageFault::Disagree(Point2::Package, 1, 1)),
+    ),
+    (
+        58,
+        2,
+        FileType::PackageMap,
+        0,
+        1,
+        Some(ImageFault::Disagree(Point2::Index, 1, 0)),
+    ),
+];
+
+fn two_flags(
+    alloc: Global,
+    at: usize,
+    byte: u8,
+    file: FileType,
+    place: usize,
+    other: u8,
+) -> Result<ImageSet, AllocError> {
+    Ok(ImageSet::new(
+        changed(
+            alloc,
+            ONE_PACKAGE,
+            file == FileType::PackageMap,
+            place,
+            other,
+        )?,
+        changed(alloc, TWO_FLAGS, true, at, byte)?,
+        changed(alloc, TWO_VALUES, file == FileType::FlagVal, place, other)?,
+        changed(alloc, TWO_INFOS, file == FileType::FlagInfo, place, other)?,
+    ))
+}
+
+#[test]
+fn the_first_of_two_faults_is_told(rt: HostRuntime) -> Result<(), Fail> {
+    for (at, byte, file, place, other, fault) in CHANGED_TWICE {
+        let set = two_flags(rt.alloc(), at, byte, file, place, other)?;
+        assert_eq!(rt;
+            check(rt.alloc(), &set, Use::Release).err(),
+            fault,
+            "byte {at}"
+        );
+    }
+    Ok(())
+}
+
+#[test]
+fn sizes_and_counts_are_told(rt: HostRuntime) -> Result<(), Fail> {
+    let alloc = rt.alloc();
+    let set = ImageSet::new(
+        vec![in alloc; 0u8; 4_194_305]?,
+        Vec::new(alloc),
+        Vec::new(alloc),
+        Vec::new(alloc),
+    );
+    let fault = check(alloc, &set, Use::Release).err();
+    assert_eq!(rt; fault, Some(ImageFault::TooLarge(4_194_305)));
+    let set = ImageSet::new(
+        ONE_PACKAGE.to_vec(alloc)?,
+        TWO_FLAGS.to_vec(alloc)?,
+        VALUES.to_vec(alloc)?,
+        TWO_INFOS.to_vec(alloc)?,
+    );
+    let fault = check(alloc, &set, Use::Copy).err();
+    assert_eq!(rt; fault, Some(ImageFault::Disagree(Point2::Count, 1, 2)));
+    Ok(())
+}
+
+#[test]
+fn a_release_is_listed(rt: HostRuntime) -> Result<(), Fail> {
+    let set = two_flags(rt.alloc(), 0, 1, FileType::FlagVal, 0, 1)?;
+    if let Ok(set) = check(rt.alloc(), &set, Use::Release) {
+        assert_eq!(rt; values_of(&set), [(false, 2), (true, 0)]);
+        let release = flags_of(rt.alloc(), &set)?;
+        let seen = (release.get("com.a", "f"), release.get("com.a", "g"));
+        let due = (Some((Kind::ReadWrite, false)), Some((Kind::ReadOnly, true)));
+        assert_eq!(rt; seen, due);
+        assert_eq!(rt; release.len(), 2);
+    } else {
+        assert!(rt; false);
+    }
+    Ok(())
+}
+
+// The values and bits at 0 and 1, where there are two.
+fn values_of(set: &Checked<'_>) -> [(bool, u8); 2] {
+    if set.count() < 2 {
+        return [(false, 0); 2];
+    }
+    [
+        (set.value_at(0), set.bits_at(0)),
+        (set.value_at(1), set.bits_at(1)),
+    ]
 }
 
 #[test]

@@ -101,6 +101,46 @@ fn headers_are_lent(rt: HostRuntime) {
     }
 }
 
+/// `flag.info` of one read-write flag without notes.
+const INFOS: &[u8; 23] = b"\x01\0\0\0\x01\0\0\0c\x03\x17\0\0\0\x01\0\0\0\x16\0\0\0\x02";
+
+fn last_package_bucket() -> Option<u32> {
+    match PackageMap::open(PACKAGES) {
+        Ok(map) => Some(map.bucket_at(map.buckets() - 1)),
+        Err(_) => None,
+    }
+}
+
+fn last_flag_bucket() -> Option<u32> {
+    match FlagMap::open(FLAGS) {
+        Ok(map) => Some(map.bucket_at(map.buckets() - 1)),
+        Err(_) => None,
+    }
+}
+
+fn value_at(i: u32) -> Option<u8> {
+    match Values::open(VALUES) {
+        Ok(values) if i < values.count() => Some(values.at(i)),
+        _ => None,
+    }
+}
+
+fn info_at(i: u32) -> Option<u8> {
+    match Infos::open(INFOS) {
+        Ok(infos) if i < infos.count() => Some(infos.at(i)),
+        _ => None,
+    }
+}
+
+#[test]
+fn places_are_lent(rt: HostRuntime) {
+    let buckets = (last_package_bucket(), last_flag_bucket());
+    assert_eq!(rt; buckets, (Some(54), Some(0)));
+    let values = (value_at(2), value_at(3), value_at(8));
+    assert_eq!(rt; values, (Some(1), Some(0), None));
+    assert_eq!(rt; (info_at(0), info_at(1)), (Some(2), None));
+}
+
 /// A header of `flag.val` with one byte changed, and what is told.
 const CHANGED: [(usize, u8, ViewFault); 8] = [
     (0, 9, ViewFault::BadVersion(9)),

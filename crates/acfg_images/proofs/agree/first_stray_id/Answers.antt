@@ -1,4 +1,3 @@
-use Rattle.std.proofs.Common.{refl}
 use Rattle.acfg_images.proofs.Tables.{no_flag, stray_found, stray_next, stray_end}
 use Rattle.acfg_images.proofs.agree.first_stray_id.Goals as goal
 

@@ -1,4 +1,4 @@
-use Rattle.std.proofs.Common.{◌≡◌, length, take}
+use Rattle.std.proofs.Common.{take}
 use Rattle.acfg_images.proofs.Tables.{Fits}
 use Rattle.acfg_images.proofs.agree.unmark_wrong_kinds.Given as goal
 

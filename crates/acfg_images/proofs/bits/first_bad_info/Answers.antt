@@ -1,4 +1,4 @@
-use Rattle.std.proofs.Common.{◌≡◌, ◌<◌, ◌∙◌, ap, not, true, false, sym, arith}
+use Rattle.std.proofs.Common.{◌≡◌, ◌∙◌, ap, not, true, false, sym, arith}
 use Rattle.acfg_views.specs.Reading.{byte_in}
 use Rattle.acfg_images.specs.Faults.{is_info}
 use Rattle.acfg_images.proofs.Least.{least_found, least_next, least_end, below_count}

@@ -1,5 +1,4 @@
 use Rattle.std.proofs.Common.{◌≡◌, ◌-◌, not}
-use Rattle.std.specs.Prelude.{nat_lt}
 use Rattle.acfg_views.specs.Reading.{byte_in}
 use Rattle.acfg_images.specs.Words.{least}
 use Rattle.acfg_images.specs.Faults.{is_info}

@@ -1,4 +1,4 @@
-use Rattle.std.proofs.Common.{◌≡◌, ◌<◌, ◌∙◌, ap, true, false, sym, arith}
+use Rattle.std.proofs.Common.{arith}
 use Rattle.std.specs.Prelude.{nat_lt}
 use Rattle.acfg_views.specs.Reading.{byte_in}
 use Rattle.acfg_images.proofs.Least.{least_found, least_next, least_end, over_one, within_one, below_count}

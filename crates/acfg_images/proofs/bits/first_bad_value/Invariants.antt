@@ -1,8 +1,7 @@
-use Rattle.std.proofs.Common.{◌≡◌, ◌-◌, not}
+use Rattle.std.proofs.Common.{◌≡◌, ◌-◌}
 use Rattle.std.specs.Prelude.{nat_lt}
 use Rattle.acfg_views.specs.Reading.{byte_in}
 use Rattle.acfg_images.specs.Words.{least}
-use Rattle.acfg_images.specs.Faults.{is_info}
 use Rattle.acfg_images.proofs.bits.first_bad_value.Given as goal
 
 abbrev pub invariant-loop-i : goal.invariant-loop-i

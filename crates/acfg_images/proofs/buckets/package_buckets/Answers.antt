@@ -1,4 +1,3 @@
-use Rattle.std.proofs.Common.{arith}
 use Rattle.acfg_images.proofs.Numbers.{bucket_next}
 use Rattle.acfg_images.proofs.buckets.package_buckets.Goals as goal
 

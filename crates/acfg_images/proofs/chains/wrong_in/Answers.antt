@@ -1,5 +1,4 @@
 use Rattle.std.proofs.Common.{◌≡◌, length, refl, rules, Some, None}
-use Rattle.acfg_images.specs.Code.{links_of}
 use Rattle.acfg_images.proofs.Heads.{Heads, chain_is}
 use Rattle.acfg_images.proofs.chains.wrong_in.Goals as goal
 

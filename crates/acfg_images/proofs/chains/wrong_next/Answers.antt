@@ -1,4 +1,4 @@
-use Rattle.std.proofs.Common.{◌≡◌, ◌+◌, ◌-◌, ◌<◌, length, get_or, sym, subst, ap, ◌∙◌, rules, arith, ℕ}
+use Rattle.std.proofs.Common.{◌≡◌, ◌+◌, ◌-◌, ◌<◌, length, get_or, sym, subst, rules, arith, ℕ}
 use Rattle.acfg_images.specs.Code.{HasBucket}
 use Rattle.acfg_images.proofs.Keys.{no_link}
 use Rattle.acfg_images.proofs.Heads.{bucket-lt, heads_more, wrong_right, wrong_here}

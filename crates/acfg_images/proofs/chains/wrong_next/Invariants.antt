@@ -1,4 +1,4 @@
-use Rattle.std.proofs.Common.{◌≡◌, ◌≤◌, ℕ, length, drop}
+use Rattle.std.proofs.Common.{◌≡◌, ◌≤◌, length, drop}
 use Rattle.acfg_images.specs.Faults.{wrong_next}
 use Rattle.acfg_images.specs.Code.{links_of}
 use Rattle.acfg_images.proofs.Heads.{Heads}

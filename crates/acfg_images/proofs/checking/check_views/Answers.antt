@@ -1,4 +1,4 @@
-use Rattle.std.proofs.Common.{◌≡◌, ◌∙◌, ◌<◌, length, sym, ap, inr, Some, None, Ok, Result, Option, arith}
+use Rattle.std.proofs.Common.{◌∙◌, length, sym, ap, inr, Ok, Option, arith}
 use Rattle.std.proofs.Common.{map as mapped}
 use Rattle.std.proofs.lemmas.Result.{err_from_is_err_and}
 use Rattle.acfg_views.specs.Reading.{package_of, flag_of}
@@ -58,14 +58,17 @@ returns-in-Some g c =
     let is = behind_same c.args.purpose opened _ _ _ _ c.deref.ensures.value c.deref-2.ensures.value c.in_ok-fault.ensures in
     inr (goes_on c.args.purpose c.args.set.now (opened_of c.args.views) c.requires ∙ all_ends c.args.purpose opened packages flags c.in_ok-fault.field-0 c.in_ok-packages.ensures.nodes c.in_ok-flags.ensures.nodes is ∙ ap (λ (o : Option ImageFault). unless o (Ok opened)) c.in-Some.is)
 
-pub new-requires : goal.new-requires
-new-requires g c =
+pub new-requires-clause-faultless : goal.new-requires-clause-faultless
+new-requires-clause-faultless g c =
     let opened = opened_of c.args.views in
     let packages = mapped package_of c.in_ok-packages.packages.nodes.items in
     let flags = mapped flag_of c.in_ok-flags.flags.nodes.items in
     let is = behind_same c.args.purpose opened _ _ _ _ c.deref.ensures.value c.deref-2.ensures.value c.in_ok-fault.ensures in
     let same = opened_same c.args.set.now opened c.requires in
     (c.args.purpose, ap (checked c.args.purpose) same ∙ goes_on c.args.purpose c.args.set.now (opened_of c.args.views) c.requires ∙ all_ends c.args.purpose opened packages flags c.in_ok-fault.field-0 c.in_ok-packages.ensures.nodes c.in_ok-flags.ensures.nodes is ∙ ap (λ (o : Option ImageFault). unless o (Ok opened)) c.in-None.is)
+
+pub new-requires-clause-files : goal.new-requires-clause-files
+new-requires-clause-files g c = sym (opened_same c.args.set.now (opened_of c.args.views) c.requires)
 
 pub returns : goal.returns
 returns g c =

@@ -1,9 +1,8 @@
-use Rattle.std.proofs.Common.{◌≡◌, ◌∙◌, ◌<◌, ◌^◌, None, ap, subst, sym, ℕ, List, length, arith}
+use Rattle.std.proofs.Common.{◌≡◌, ◌∙◌, None, ap, sym, ℕ, List, length, arith}
 use Rattle.std.proofs.Common.{map as mapped}
 use Rattle.std.proofs.Math.ListN.{length-map}
-use Rattle.acfg_views.specs.Layout.{Flag}
 use Rattle.acfg_views.specs.Reading.{package_of, flag_of}
-use Rattle.acfg_images.specs.Code.{table_index, kind_fault_by}
+use Rattle.acfg_images.specs.Code.{table_index}
 use Rattle.acfg_images.specs.Faults.{stray_id}
 use Rattle.acfg_images.proofs.Tables.{indexed_first, indexed_result}
 use Rattle.acfg_images.proofs.disagree.find_by_index.Goals as goal

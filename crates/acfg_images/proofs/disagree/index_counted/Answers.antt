@@ -1,4 +1,4 @@
-use Rattle.std.proofs.Common.{◌≡◌, ◌<◌, length, Some, None, refl, rules, arith}
+use Rattle.std.proofs.Common.{◌≡◌, length, refl, rules}
 use Rattle.acfg_images.proofs.Tables.{index_some, index_none}
 use Rattle.acfg_images.proofs.disagree.index_counted.Goals as goal
 

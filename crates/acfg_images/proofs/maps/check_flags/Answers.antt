@@ -1,4 +1,4 @@
-use Rattle.std.proofs.Common.{◌≡◌, ◌∙◌, ◌<◌, length, sym, ap, inr, Some, None, Option, Ok, Result, ℕ, List, arith}
+use Rattle.std.proofs.Common.{◌≡◌, ◌∙◌, ◌<◌, length, sym, ap, subst, inr, Some, None, Option, Ok, Result, ℕ, List, arith}
 use Rattle.std.proofs.Common.{map as mapped}
 use Rattle.std.proofs.lemmas.Result.{err_from_is_err_and}
 use Rattle.acfg_views.specs.Reading.{flag_of, bucket_count}
@@ -6,6 +6,8 @@ use Rattle.acfg_images.specs.declared.fault.ImageFault.{ImageFault}
 use Rattle.acfg_images.specs.declared.fault.FileType.TheVariants.{FlagMap}
 use Rattle.acfg_images.specs.Links.{flag_links}
 use Rattle.acfg_images.specs.Code.{links_of}
+use Rattle.acfg_images.specs.Twins.{Rise}
+use Rattle.acfg_images.proofs.TwinRows.{flags_rise}
 use Rattle.acfg_images.specs.Faults.{unless, buckets_in, link_fault}
 use Rattle.acfg_images.proofs.Stages.{flags_stop, flags_linked, length-buckets_in, link_fault_is}
 use Rattle.acfg_images.proofs.maps.check_flags.Goals as goal
@@ -18,6 +20,11 @@ returns-in_err-flags-clause-nodes g c =
 pub links_fault-requires-clause-buckets : goal.links_fault-requires-clause-buckets
 links_fault-requires-clause-buckets g c =
     rw (c.deref-2.ensures.value, c.deref.ensures.value, c.in_ok-buckets.ensures, length-buckets_in c.args.map.now) c.in_ok-flags.ensures.buckets
+
+pub links_fault-requires-clause-rising : goal.links_fault-requires-clause-rising
+links_fault-requires-clause-rising g c =
+    let nodes = mapped flag_of c.in_ok-flags.flags.nodes.items in
+    subst Rise (sym (ap links_of c.deref-2.ensures.value ∙ c.in_ok-flags.ensures.links)) (flags_rise c.args.map.now.first_node nodes)
 
 pub links_fault-requires-clause-some : goal.links_fault-requires-clause-some
 links_fault-requires-clause-some g c =

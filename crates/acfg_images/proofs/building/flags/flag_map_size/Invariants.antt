@@ -1,0 +1,8 @@
+use Rattle.std.proofs.Common.{◌≡◌, map, take}
+use Rattle.acfg_views.specs.Layout.{flag_node}
+use Rattle.acfg_images.specs.Build.{told}
+use Rattle.acfg_images.specs.Building.{flag_of, map_size_of}
+use Rattle.acfg_images.proofs.building.flags.flag_map_size.Given as goal
+
+abbrev pub invariant-loop-row : goal.invariant-loop-row
+invariant-loop-row l = l.size ≡ told (map_size_of flag_node l.container l.buckets (map flag_of (take l.row-index l.rows)))

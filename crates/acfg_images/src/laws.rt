@@ -1,0 +1,10 @@
+//! Laws of sets. Each is what a function without parameters and without work ensures, so that a caller gets the fact
+//! by a call.
+
+ghost use Rattle.acfg_images.specs.Laws.{FaultlessAreSets, SetsAreFaultless};
+
+/// No fault stands in four files exactly where they are a set, of one container, one release and its notes.
+pub fn faultless_are_sets()
+    ensures faultless { FaultlessAreSets }
+    ensures sets { SetsAreFaultless }
+{}
