@@ -1,0 +1,5 @@
+pub mod Chain
+pub mod Counting
+pub mod Listing
+pub mod Sound
+pub mod Walks
