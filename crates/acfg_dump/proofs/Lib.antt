@@ -1,0 +1,5 @@
+pub mod Extents
+pub mod Firsts
+pub mod Joined
+pub mod OneCondition
+pub mod Spelling
