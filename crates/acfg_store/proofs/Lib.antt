@@ -1,0 +1,10 @@
+pub mod Apart
+pub mod Fronts
+pub mod Listed
+pub mod Lying
+pub mod Nothing
+pub mod OneSet
+pub mod OneState
+pub mod Reading
+pub mod Rowed
+pub mod Unused
