@@ -1,15 +1,8 @@
 -- Facts on lists that several proofs use.
-use Rattle.std.proofs.Common.{◌≡◌, ◌+◌, ◌<◌, List, [], ◌∷◌, length, get_or, map, sym, ◌∙◌, arith, Ordering}
+use Rattle.std.proofs.Common.{◌+◌, ◌<◌, List, length, map, ◌∙◌, arith, Ordering}
 use Rattle.std.specs.Ordering.{is_lt}
 use Rattle.std.specs.List.Sorted.{IsSorted, IsSortedByKey}
 use Rattle.std.proofs.lemmas.List.{length-map, get_or-map}
-
--- a list of two, from its elements
-pub two_items : {X : Type 0} (xs : List X) (a b : X) → length xs ≡ 2 → a ≡ get_or xs 0 a → b ≡ get_or xs 1 b → xs ≡ a ∷ b ∷ []
-two_items [] a b count first second = absurd (omega arith)
-two_items (x ∷ []) a b count first second = absurd (omega arith)
-two_items (x ∷ y ∷ []) a b count first second = λ j. sym first j ∷ sym second j ∷ []
-two_items (x ∷ y ∷ z ∷ xs) a b count first second = absurd (omega arith)
 
 -- a list sorted by a key has its keys sorted
 pub IsSorted-map : {X K : Type 0} (key : X → K) (cmp : K → K → Ordering) (xs : List X) (x : X) → IsSortedByKey key cmp xs → IsSorted cmp (map key xs)

@@ -1,32 +1,66 @@
--- Words and files have an outcome, where no bytes are without what they load and what `flags` gives for them.
-use Rattle.std.proofs.Common.{ℕ, List, [], refl, inl, inr}
-use Rattle.std.specs.Prelude.{Option, None, Some, codes}
+-- Words and files have an outcome.
+use Rattle.std.proofs.Common.{◌≡◌, ℕ, List, [], ◌∷◌, refl, sym, subst, inl, inr, ⊎_elim}
+use Rattle.std.specs.Prelude.{Option, None, Some, MatchOption, codes}
+use Rattle.std.specs.List.{flat_map}
 use Rattle.std.specs.FinMap.{empty}
+use Rattle.acfg_decls.specs.declared.declared.DeclarationsFile.{DeclarationsFile}
+use Rattle.acfg_decls.specs.declared.declared.Placed.{Placed}
+use Rattle.acfg_decls.specs.declared.faults.DeclWhat.{DeclWhat}
+use Rattle.acfg_decls.specs.declared.faults.DeclWhat.TheVariants.{MissingField}
+use Rattle.acfg_decls.specs.declared.messages.Message.TheVariants.{FlagDeclarations}
+use Rattle.acfg_decls.specs.Compile.{FailsOwn, FailsToCompile, container_read}
+use Rattle.acfg_decls.specs.Reading.{Declares, declarations_in}
+use Rattle.acfg_decls.proofs.Exists.{compiles_or_fails}
+use Rattle.acfg_decls.proofs.Unique.{read_or_refused}
 use Rattle.acfg_device.specs.Panel.{Files}
 use Rattle.acfg_daemon.specs.Lines.{lines}
-use Rattle.acfg_daemon.proofs.SomeTranscript.{some_transcript, AllLoad, Some_}
+use Rattle.acfg_daemon.proofs.SomeTranscript.{some_transcript, Some_}
 use Rattle.acfg_top.specs.Commands.{CommandGives, Gives}
-use Rattle.acfg_top.specs.Flags.{FlagsGives}
+use Rattle.acfg_top.specs.Flags.{FlagsGives, fault_words, flag_line}
 use Rattle.acfg_top.specs.Outcome.{Outcome, Usage, Refused, Done}
 use Rattle.acfg_top.specs.Rehearsal.{RehearseGives}
-use Rattle.acfg_top.specs.Words.{Command, Flags, Rehearse}
+use Rattle.acfg_top.specs.Query.{judged, set_in}
+use Rattle.acfg_top.specs.Words.{Command, Flags, Rehearse, Query}
 
--- `flags` gives something for each file that is there
-abbrev pub AllListed : Type 0
-AllListed = (file bytes : List ℕ) → Some_ ((outcome : Outcome) × FlagsGives file (Some bytes) outcome)
+-- what a file gives that is read and doesn't compile
+fails : (name bytes : List ℕ) (file : DeclarationsFile) → Declares name bytes file → (number place : ℕ) (fault : DeclWhat) → FailsOwn file number place fault → (outcome : Outcome) × FlagsGives name (Some bytes) outcome
+fails name bytes file declares number place fault own = (Refused name (fault_words place fault), inr (place, fault, inr (file, number, declares, own), refl))
 
-some_flags : AllListed → (file : List ℕ) (found : Option (List ℕ)) → Some_ ((outcome : Outcome) × FlagsGives file found outcome)
-some_flags all file None none = none (Refused file (codes "missing"), refl)
-some_flags all file (Some bytes) none = all file bytes none
+-- what fails of a file where a container is named, and where none is
+abbrev OwnFails : DeclarationsFile → Option Placed → ℕ → ℕ → DeclWhat → Type 0
+OwnFails file named number place fault =
+    MatchOption named ((number ≡ 0) × (place ≡ file.end) × (fault ≡ MissingField))
+    (λ container. FailsToCompile file.package.text (container_read container.text) (file ∷ []) [] number place fault)
 
-some_rehearsal : AllLoad → (script : List ℕ) (files : Files) (found : Option (List ℕ)) → Some_ ((outcome : Outcome) × RehearseGives script files found outcome)
-some_rehearsal all script files None none = none (Refused script (codes "missing"), refl)
-some_rehearsal all script files (Some bytes) none = some_transcript all files empty 1 (lines bytes) (λ text. none (Done text.0 [], (text.0, text.1, refl)))
+-- declarations that were read compile by themselves, or have a first fault
+some_own : (name bytes : List ℕ) (file : DeclarationsFile) → Declares name bytes file → Some_ ((outcome : Outcome) × FlagsGives name (Some bytes) outcome)
+some_own name bytes file declares none = go file.container refl
+  where
+    go : (named : Option Placed) → file.container ≡ named → ⊥
+    go None is = none (fails name bytes file declares 0 file.end MissingField (subst (λ named. OwnFails file named 0 file.end MissingField) (sym is) (refl, refl, refl)))
+    go (Some container) is =
+        compiles_or_fails file.package.text (container_read container.text) (file ∷ []) []
+        (λ flags compiles. none (Done (flat_map flag_line flags) [], inl (file, flags, declares, record { container = container; named = is; compiles = compiles }, refl)))
+        (λ number place fault first. none (fails name bytes file declares number place fault (subst (λ named. OwnFails file named number place fault) (sym is) first)))
 
-some_command : AllLoad → AllListed → (command : Command) (files : Files) → Some_ ((outcome : Outcome) × CommandGives command files outcome)
-some_command loads listed (Flags file) files none = some_flags listed file (files file) none
-some_command loads listed (Rehearse script) files none = some_rehearsal loads script files (files script) none
+-- `flags` gives something for each file
+some_flags : (file : List ℕ) (found : Option (List ℕ)) → Some_ ((outcome : Outcome) × FlagsGives file found outcome)
+some_flags file None = λ none. none (Refused file (codes "missing"), refl)
+some_flags file (Some bytes) =
+    ⊎_elim
+    (λ read. some_own file bytes (declarations_in file read.0) (read.0, read.1, refl))
+    (λ refused none. none (Refused file (fault_words refused.0 refused.1), inr (refused.0, refused.1, inl refused.2, refl)))
+    (read_or_refused FlagDeclarations bytes)
 
-pub some_outcome : AllLoad → AllListed → (words : List (List ℕ)) (files : Files) → Some_ ((outcome : Outcome) × Gives words files outcome)
-some_outcome loads listed words files none =
-    none (Usage, inr (λ command asks. some_command loads listed command files (λ found. none (found.0, inl (command, asks, found.1))), refl))
+some_rehearsal : (script : List ℕ) (files : Files) (found : Option (List ℕ)) → Some_ ((outcome : Outcome) × RehearseGives script files found outcome)
+some_rehearsal script files None none = none (Refused script (codes "missing"), refl)
+some_rehearsal script files (Some bytes) none = some_transcript files empty 1 (lines bytes) (λ text. none (Done text.0 [], (text.0, text.1, refl)))
+
+some_command : (command : Command) (files : Files) → Some_ ((outcome : Outcome) × CommandGives command files outcome)
+some_command (Flags file) files none = some_flags file (files file) none
+some_command (Rehearse script) files none = some_rehearsal script files (files script) none
+some_command (Query dir name flag) files none = none (judged dir name flag (set_in dir files), refl)
+
+pub some_outcome : (words : List (List ℕ)) (files : Files) → Some_ ((outcome : Outcome) × Gives words files outcome)
+some_outcome words files none =
+    none (Usage, inr (λ command asks. some_command command files (λ found. none (found.0, inl (command, asks, found.1))), refl))

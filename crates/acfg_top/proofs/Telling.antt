@@ -1,5 +1,5 @@
 -- What a command leaves that looks at its inputs and then says its words, and what a run answers for its outcome.
-use Rattle.std.proofs.Common.{◌≡◌, ℕ, List, [], ◌++◌, string_bytes, refl, sym, ◌∙◌, ap, subst, inl, inr}
+use Rattle.std.proofs.Common.{◌≡◌, ◌≢◌, ℕ, List, [], ◌++◌, string_bytes, refl, sym, ◌∙◌, ap, subst, inl, inr}
 use Rattle.std.specs.Prelude.{Option, Result, Ok, Err, IfOk, IfSome, OnErr, OnOk}
 use Rattle.acfg_device.specs.Disk.{Disk, File, IsSettled, IsSynced}
 use Rattle.acfg_device.specs.Only.{OnlySays}
@@ -10,7 +10,7 @@ use Rattle.acfg_top.specs.declared.ending.Stop.{Stop}
 use Rattle.acfg_top.specs.declared.ending.Stop.TheVariants.{Failed, OutOfMemory}
 use Rattle.acfg_top.specs.declared.told.Told.{Told}
 use Rattle.acfg_top.specs.Bodies.{status_of, Comes, IsEnding, IsOf}
-use Rattle.acfg_top.specs.Outcome.{Outcome, Usage, Refused, Done, Answers, IsBroken, IsDone, said_for, status_for, writes_of, written}
+use Rattle.acfg_top.specs.Outcome.{Outcome, Usage, Refused, Done, Answers, Tells, IsBroken, IsDone, said_for, status_for, writes_of, written}
 
 -- a disk with the same names and pending name changes is settled where the other one is
 pub settled_too : (before after : Disk) → after.names ≡ before.names → after.pending ≡ before.pending → IsSettled before → IsSettled after
@@ -76,3 +76,14 @@ answers_exact panel gives one (Ok ending) status before after comes broken rose 
     })
 answers_exact panel gives one (Err Failed) status before after comes broken rose is outcome given = inr (inl (record { is = is; rose = rose refl; broken = broken outcome given }))
 answers_exact panel gives one (Err OutOfMemory) status before after comes broken rose is outcome given = inr (inr (record { is = is; broken = broken outcome given }))
+
+-- a command that told its outcome told one of those that words give
+pub ending_tells : {P : Type 0} (panel : Ghosts P) (gives words_give : Outcome → Type 0) → ((outcome : Outcome) → gives outcome → words_give outcome) → (result : Result Ending Stop) (status : ℕ) (before after : P)
+    → IfOk result (λ ending. Comes panel gives ending before after) → status ≡ status_of result → status ≢ 4 → status ≢ 5 → Tells panel words_give status before after
+ending_tells panel gives words_give given (Ok ending) status before after comes is failed starved = record {
+  outcome = comes.outcome;
+  given = given comes.outcome comes.given;
+  ends = record { is = is ∙ ending_status comes.outcome ending comes.is; done = comes.done };
+}
+ending_tells panel gives words_give given (Err Failed) status before after comes is failed starved = absurd (failed is)
+ending_tells panel gives words_give given (Err OutOfMemory) status before after comes is failed starved = absurd (starved is)

@@ -15,11 +15,13 @@ use Rattle.acfg_top.specs.declared.told.Told.{Told}
 use Rattle.acfg_top.specs.declared.words as source
 use Rattle.acfg_top.specs.Flags.{fault_words}
 use Rattle.acfg_top.specs.Outcome.{Outcome, Usage, Refused, Done, IsDone, said_for, writes_of}
-use Rattle.acfg_top.specs.Words.{Command, Flags, Rehearse}
+use Rattle.acfg_top.specs.Query.{image_words}
+use Rattle.acfg_top.specs.Words.{Command, Flags, Rehearse, Query}
 
 abbrev pub command_of : source.Command.Command → Command
 command_of (source.Command.TheVariants.Flags file) = Flags file.now
 command_of (source.Command.TheVariants.Rehearse script) = Rehearse script.now
+command_of (source.Command.TheVariants.Query dir asked) = Query dir.now asked.package.now asked.flag.now
 
 abbrev pub stop_of_read : ReadFault → Stop
 stop_of_read read.Failed = Failed
@@ -45,6 +47,7 @@ status_of (Err OutOfMemory) = 5
 abbrev pub refusal_words : Refusal → List ℕ
 refusal_words refusal.Missing = codes "missing"
 refusal_words (refusal.Declarations place what) = fault_words place what
+refusal_words (refusal.Image fault) = image_words fault
 
 -- what is to be told is that of an outcome that writes no file
 pub record IsOf (outcome : Outcome) (told : Told) : Type 0 where

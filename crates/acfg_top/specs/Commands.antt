@@ -5,12 +5,14 @@ use Rattle.acfg_device.specs.Panel.{Files}
 use Rattle.acfg_device.specs.declared.panel.Panel.{Ghosts}
 use Rattle.acfg_top.specs.Flags.{FlagsGives}
 use Rattle.acfg_top.specs.Outcome.{Outcome, Usage}
+use Rattle.acfg_top.specs.Query.{QueryGives}
 use Rattle.acfg_top.specs.Rehearsal.{RehearseGives}
-use Rattle.acfg_top.specs.Words.{Command, Flags, Rehearse, Asks}
+use Rattle.acfg_top.specs.Words.{Command, Flags, Rehearse, Query, Asks}
 
 abbrev pub CommandGives : Command → Files → Outcome → Type 0
 CommandGives (Flags file) files outcome = FlagsGives file (files file) outcome
 CommandGives (Rehearse script) files outcome = RehearseGives script files (files script) outcome
+CommandGives (Query dir name flag) files outcome = QueryGives dir name flag files outcome
 
 -- The outcome of words on files: that of the command they ask for, and usage where they ask for none.
 abbrev pub Gives : List (List ℕ) → Files → Outcome → Type 0
@@ -22,3 +24,4 @@ Gives words files outcome =
 abbrev pub Only : {P : Type 0} → Ghosts P → Command → P → P → Type 0 → Type 0
 Only panel (Flags file) before after fails = OnlySays panel before after fails
 Only panel (Rehearse script) before after fails = OnlySays panel before after fails
+Only panel (Query dir name flag) before after fails = OnlySays panel before after fails

@@ -3,6 +3,10 @@
 
 mod ending;
 mod flags;
+mod image_words;
+mod query;
+#[cfg(test)]
+mod query_tests;
 mod rehearsal;
 #[cfg(test)]
 mod script_tests;

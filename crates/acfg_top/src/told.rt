@@ -7,8 +7,10 @@ ghost use Rattle.acfg_top.specs.Bodies.{refusal_words, IsOf};
 ghost use Rattle.acfg_top.specs.Outcome.{Refused};
 
 use crate::ending::{Ending, Stop};
+use crate::image_words::PrintedFault;
 use acfg_decls::DeclWhat;
 use acfg_device::Panel;
+use acfg_images::ImageFault;
 use acfg_text::TextWhat;
 use std::alloc::{AllocError, Global};
 use std::fmt;
@@ -61,6 +63,8 @@ pub enum Refusal {
     Missing,
     /// The first fault of a file of declarations or values, and its byte place from 0.
     Declarations(usize, DeclWhat),
+    /// The first fault of a set of storage files.
+    Image(ImageFault),
 }
 
 impl fmt::Display for Refusal {
@@ -75,6 +79,10 @@ impl fmt::Display for Refusal {
             Refusal::Declarations(place, what) => {
                 let what = Printed(*what);
                 write!(f, "{what} at {place}")
+            }
+            Refusal::Image(fault) => {
+                let fault = PrintedFault(*fault);
+                write!(f, "{fault}")
             }
         }
     }

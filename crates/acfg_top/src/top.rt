@@ -1,18 +1,16 @@
 //! The top call.
 
-ghost use Rattle.std.specs.Prelude.{◌≡◌, ◌≤◌, ◌⊎◌, ◌≢◌, ℕ, List, Some, IsTrue, IfOk, OnErr, map, string_bytes};
-ghost use Rattle.acfg_daemon.specs.Sources.{BytesLoad};
+ghost use Rattle.std.specs.Prelude.{◌≡◌, ◌≤◌, ◌⊎◌, ◌≢◌, ℕ, List, IsTrue, IfOk, OnErr, map, string_bytes};
 ghost use Rattle.acfg_device.specs.Only.{OnlySays};
 ghost use Rattle.acfg_device.specs.Panel.{Files, Rose};
-ghost use Rattle.acfg_model.specs.declared.requests.Loaded.{Loaded};
 ghost use Rattle.acfg_top.specs.Bodies.{command_of, status_of, Comes};
 ghost use Rattle.acfg_top.specs.Commands.{CommandGives, Gives, Only};
-ghost use Rattle.acfg_top.specs.Flags.{FlagsGives};
 ghost use Rattle.acfg_top.specs.Outcome.{Answers, IsBroken, IsDone, IsStatus, Outcome, Tells, Usage};
 ghost use Rattle.acfg_top.specs.Words.{Asks};
 
 use crate::ending::{Ending, Stop};
 use crate::flags::flags;
+use crate::query::query;
 use crate::rehearsal::rehearse_script;
 use crate::told::say;
 use crate::words::{Command, read_command};
@@ -93,6 +91,7 @@ fn carry_out<D: Device>(alloc: Global, command: Command<'_>, dev: &mut D) -> Res
     match command {
         Command::Flags(file) => flags(alloc, file, dev),
         Command::Rehearse(script) => rehearse_script(alloc, script, dev),
+        Command::Query(dir, asked) => query(alloc, dir, asked, dev),
     }
 }
 
@@ -102,9 +101,7 @@ pub fn one_outcome()
         → Gives words files outcome → Gives words files other → outcome ≡ other }
 {}
 
-/// Words and files have an outcome, where no bytes are without what they load and what `flags` gives for them.
+/// It can't be that words and files have no outcome.
 pub fn some_outcome()
-    ensures { ((container path bytes : List ℕ) → ¬ ((loaded : Loaded) → BytesLoad container path bytes loaded → ⊥))
-        → ((file bytes : List ℕ) → ¬ ((outcome : Outcome) → FlagsGives file (Some bytes) outcome → ⊥))
-        → (words : List (List ℕ)) (files : Files) → ¬ ((outcome : Outcome) → Gives words files outcome → ⊥) }
+    ensures { (words : List (List ℕ)) (files : Files) → ¬ ((outcome : Outcome) → Gives words files outcome → ⊥) }
 {}

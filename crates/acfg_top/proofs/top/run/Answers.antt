@@ -1,8 +1,8 @@
-use Rattle.std.proofs.Common.{map, string_bytes}
+use Rattle.std.proofs.Common.{map, string_bytes, inl}
 use Rattle.acfg_top.specs.Bodies.{command_of}
-use Rattle.acfg_top.specs.Commands.{CommandGives}
+use Rattle.acfg_top.specs.Commands.{CommandGives, Gives}
 use Rattle.acfg_top.proofs.OneOutcome.{command_gives_unique, gives_command}
-use Rattle.acfg_top.proofs.Telling.{answers_exact}
+use Rattle.acfg_top.proofs.Telling.{answers_exact, ending_tells}
 use Rattle.acfg_top.proofs.top.run.Goals as goal
 
 pub returns-in-Some-clause-exact : goal.returns-in-Some-clause-exact
@@ -12,3 +12,10 @@ returns-in-Some-clause-exact g c = λ tells outcome gives.
     answers_exact g.D.Panel (CommandGives command files) (command_gives_unique command files) c.carry_out.result c.status.result c.args.dev.now c.carry_out.new.dev
     (c.carry_out.ensures.told tells) (c.carry_out.ensures.broken tells) c.carry_out.ensures.failed c.status.ensures
     outcome (gives_command (map string_bytes c.args.words.now) command files outcome c.in-Some.ensures gives)
+
+pub returns-in-Some-clause-told : goal.returns-in-Some-clause-told
+returns-in-Some-clause-told g c = λ tells failed starved.
+    let command = command_of c.in-Some.command in
+    let files = g.D.Panel.files c.args.dev.now in
+    ending_tells g.D.Panel (CommandGives command files) (Gives (map string_bytes c.args.words.now) files) (λ outcome given. inl (command, c.in-Some.ensures, given))
+    c.carry_out.result c.status.result c.args.dev.now c.carry_out.new.dev (c.carry_out.ensures.told tells) c.status.ensures failed starved
