@@ -118,8 +118,8 @@ fn builds_three_packages(rt: HostRuntime) -> Result<(), Fail> {
     match build(alloc, &container, &caches) {
         Ok(set) => {
             assert_eq!(rt; set.flag_val(), VALUES.as_slice());
-            assert!(rt; set.flag_info().ends_with(&INFOS));
-            assert!(rt; set.package_map().starts_with(&PACKAGES));
+            assert!(rt; set.flag_info().ends_with(INFOS));
+            assert!(rt; set.package_map().starts_with(PACKAGES));
             assert_eq!(rt; set.package_map().len(), 209);
             assert_eq!(rt; set.flag_map().len(), 321);
             assert!(rt; crate::check(alloc, &set, crate::Use::Release).is_ok());
