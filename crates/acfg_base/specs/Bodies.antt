@@ -21,4 +21,5 @@ pub record IsKept (list : List Entry) : Type 0 where
 abbrev pub SomeStepDown : List Entry → Type 0
 SomeStepDown list =
     (k : ℕ) × (k + 1 < length list)
-    × ((d : Entry) → is_lt (key_cmp (key_of (slice_index_or list k d)) (key_of (slice_index_or list (k + 1) d))) ≡ false)
+    × ((d : Entry)
+    → is_lt (key_cmp (key_of (slice_index_or list k d)) (key_of (slice_index_or list (k + 1) d))) ≡ false)

@@ -6,3 +6,4 @@ pub mod Names
 pub mod Paths
 pub mod Places
 pub mod Release
+pub mod Shorts

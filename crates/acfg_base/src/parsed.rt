@@ -5,6 +5,7 @@ ghost use Rattle.std.specs.Option.{SomeIff};
 
 use crate::memory::OutOfMemory;
 use crate::names::{is_container, is_name, is_package};
+use crate::text::Text;
 use std::alloc::{AllocError, Global};
 use std::marker::{Model, PhantomData};
 
@@ -21,19 +22,18 @@ pub trait Rule {
 /// A text that meets a rule, and owns its bytes.
 #[derive(Debug, Drop)]
 pub struct Lawful<R: Rule> {
-    text: String,
+    text: Text,
     rule: PhantomData<R>,
 }
 
 impl<R: Rule> Model for Lawful<R> {
     ghost use Rattle.std.specs.Prelude.{List, ℕ};
-    ghost use Rattle.std.specs.String.{string_bytes};
 
     ghost Value = { List ℕ };
 
-    ghost view = { λ name. string_bytes name.text };
+    ghost view = { λ name. name.text };
 
-    ghost invariant = { λ name. R.IsLawful (string_bytes name.text) };
+    ghost invariant = { λ name. R.IsLawful name.text };
 }
 
 impl<R: Rule> Lawful<R> {
@@ -44,7 +44,7 @@ impl<R: Rule> Lawful<R> {
         if !R::admits(text.as_bytes()) {
             return Ok(None);
         }
-        let text = String::from_str(alloc, text)?;
+        let text = Text::copy(alloc, text)?;
         Ok(Some(Lawful {
             text,
             rule: PhantomData,

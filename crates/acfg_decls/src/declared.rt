@@ -3,8 +3,7 @@
 ghost use Rattle.std.specs.Prelude.{◌≡◌, MatchOption, None, Some};
 
 use crate::flags::Purpose;
-use acfg_base::Sequence;
-use acfg_text::Text;
+use acfg_base::{Sequence, Text};
 use std::marker::Model;
 
 /// A text of a file, and the byte place of its first token, from 0.
@@ -33,7 +32,7 @@ pub struct DeclaredFlag {
 #[derive(Debug, Drop)]
 pub struct DeclarationsFile {
     /// The file's name, as it was given: the source of its flags' first points.
-    pub source: acfg_base::Text,
+    pub source: Text,
     pub package: Placed,
     pub container: Option<Placed>,
     /// In the order of the file.
@@ -59,7 +58,7 @@ pub struct FlagValue {
 #[derive(Debug, Drop)]
 pub struct ValuesFile {
     /// The file's name, as it was given: the source of its values' points.
-    pub source: acfg_base::Text,
+    pub source: Text,
     /// In the order of the file.
     pub values: Sequence<FlagValue>,
 }

@@ -163,7 +163,7 @@ fn make_flag(
         package: package.clone()?,
         name,
         namespace,
-        description: Text::new(String::from_str(alloc, flag.description.text.as_str())?),
+        description: flag.description.text.clone()?,
         bugs: copy_texts(alloc, flag.bugs.as_slice())?,
         enabled: false,
         writable: !flag.fixed,
@@ -175,13 +175,12 @@ fn make_flag(
     })
 }
 
-// Texts of a file, each with memory of its own.
-fn copy_texts(alloc: Global, texts: &[acfg_text::Text]) -> Result<Sequence<Text>, AllocError>
+fn copy_texts(alloc: Global, texts: &[Text]) -> Result<Sequence<Text>, AllocError>
     ensures { IfOk result (λ copies. copies ≡ texts.now) }
 {
     let mut copies = Vec::with_capacity(alloc, texts.len())?;
     for text in texts {
-        copies.push(Text::new(String::from_str(alloc, text.as_str())?))?;
+        copies.push(text.clone()?)?;
     }
     Ok(Sequence::from_vec(copies))
 }

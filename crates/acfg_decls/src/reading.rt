@@ -10,8 +10,8 @@ use crate::declared::{DeclarationsFile, DeclaredFlag, FlagValue, Placed, ValuesF
 use crate::flags::Purpose;
 use crate::messages::Words;
 use crate::scalars::enum_number;
-use acfg_base::Sequence;
-use acfg_text::{Item, Text, Tree, Value};
+use acfg_base::{Sequence, Text};
+use acfg_text::{Item, Tree, Value};
 use std::alloc::{AllocError, Global};
 
 /// What a declarations file has, of a tree in which the walk finds no fault.
@@ -24,7 +24,7 @@ pub fn declarations_of(
 {
     let items = tree.items.as_slice();
     Ok(DeclarationsFile {
-        source: acfg_base::Text::new(String::from_str(alloc, source)?),
+        source: Text::copy(alloc, source)?,
         package: the_text(alloc, "package", items)?,
         container: text_in("container", items)?,
         flags: flags_in(alloc, items)?,
@@ -37,7 +37,7 @@ pub fn values_of(alloc: Global, source: &str, tree: &Tree) -> Result<ValuesFile,
     ensures { IfOk result (λ file. file ≡ values_in source.now tree.now) }
 {
     Ok(ValuesFile {
-        source: acfg_base::Text::new(String::from_str(alloc, source)?),
+        source: Text::copy(alloc, source)?,
         values: set_in(alloc, tree.items.as_slice())?,
     })
 }

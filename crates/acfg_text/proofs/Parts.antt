@@ -351,6 +351,13 @@ pub value_read_text : (tokens : List Token) (end depth at next : ℕ) (t : Seen)
     → ReadsValue tokens end true depth at (v.Text t.place text) next
 value_read_text tokens end depth at next t bytes text is_next e joins utf8 is = subst (λ b. ReadsValue tokens end true depth at (v.Text t.place b) next) (sym is) (text_read tokens end depth at next t bytes is_next e joins utf8)
 
+-- a quoted token by itself
+pub joins_none : (tokens : List Token) (end : ℕ) (old bytes : List ℕ) (at : ℕ) → bytes ≡ old → NoQuote (ahead tokens at) → Joins tokens end old at bytes at
+joins_none tokens end old bytes at is ends = record {
+  leads = λ h slot place top frames. ap (λ b. run true end (ahead tokens at) (st (in_text h slot place b) top frames)) (sym is);
+  ends = ends;
+}
+
 pub not_utf8 : (bytes : List ℕ) → (IsUtf8 bytes → false ≡ true) → is_utf8 bytes ≡ false
 not_utf8 bytes other = go (is_utf8 bytes) refl
   where

@@ -6,7 +6,6 @@ pub mod Meanings
 pub mod Printed
 pub mod Reading
 pub mod Scanning
-pub mod Shorts
 pub mod Spells
 pub mod Terminals
 pub mod TextFaults

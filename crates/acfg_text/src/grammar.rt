@@ -14,13 +14,14 @@ ghost use Rattle.acfg_text.specs.Reading.{IsNoOpening, FailsScalar, Joins, NoQuo
 
 use crate::classes::{Bracket, Class};
 use crate::fault::{TextFault, TextWhat};
-use crate::quoted::push_spelled;
+use crate::quoted::{plain_value, push_spelled};
 use crate::terminals::{Seen, field_name, peek, skip_end, text_of};
-use crate::text::Text;
 use crate::token::Token;
 use crate::tree::{Item, Tree, Value};
+use acfg_base::Text;
 use sqlite_items::Items;
 use std::alloc::{AllocError, Global};
+use std::str;
 
 /// The most messages that may be open in one another.
 const MOST_OPEN: usize = 32;
@@ -332,6 +333,73 @@ fn read_scalar(
 
 // Quoted tokens, whose values join.
 fn read_text(
+    alloc: Global,
+    tokens: &[Token<'_>],
+    end: usize,
+    first: Seen<'_>,
+    at: usize,
+) -> Result<(Value, usize), TextFault>
+    requires plain { ArePlain tokens.now }
+    requires within { at < length tokens.now }
+    requires next { IsNext tokens.now at first }
+    requires quoted { first.class ≡ Class.Quoted }
+    ensures ok { IfOk result (λ r. (depth : ℕ) → ReadsValue tokens.now end true depth at r.0 r.1) }
+    ensures within { IfOk result (λ r. (at < r.1) × (r.1 ≤ length tokens.now)) }
+    ensures err { IfErr result (λ failure.
+        IfAt failure (λ p w. (depth : ℕ) → FailsScalar tokens.now end depth at p w)) }
+{
+    match lone_text(tokens, first.text, at + 1) {
+        Some(text) => {
+            let (value, next) = read_lone(alloc, tokens, end, first, at, text)?;
+            Ok((value, next))
+        }
+        None => {
+            let (value, next) = read_joined(alloc, tokens, end, first, at)?;
+            Ok((value, next))
+        }
+    }
+}
+
+// What a quoted token stands for, where it has no escape and no further one stands behind it.
+fn lone_text<'a>(tokens: &[Token<'_>], first: &'a [u8], at: usize) -> Option<&'a [u8]>
+    requires { ArePlain tokens.now }
+    ensures value { IfSome result (λ value. value.now ≡ spelled first.now) }
+    ensures ends { IfSome result (λ value. NoQuote (ahead tokens.now at)) }
+{
+    match quoted_text(tokens, at) {
+        Some(_) => None,
+        None => plain_value(first),
+    }
+}
+
+// A quoted token with none behind it, which stands for this text.
+fn read_lone(
+    alloc: Global,
+    tokens: &[Token<'_>],
+    end: usize,
+    token: Seen<'_>,
+    at: usize,
+    text: &[u8],
+) -> Result<(Value, usize), TextFault>
+    requires plain { ArePlain tokens.now }
+    requires within { at < length tokens.now }
+    requires next { IsNext tokens.now at token }
+    requires value { text.now ≡ spelled token.text.now }
+    requires ends { NoQuote (ahead tokens.now (at + 1)) }
+    requires quoted { token.class ≡ Class.Quoted }
+    ensures ok { IfOk result (λ r. (depth : ℕ) → ReadsValue tokens.now end true depth at r.0 r.1) }
+    ensures within { IfOk result (λ r. (at < r.1) × (r.1 ≤ length tokens.now)) }
+    ensures err { IfErr result (λ failure.
+        IfAt failure (λ p w. (depth : ℕ) → FailsScalar tokens.now end depth at p w)) }
+{
+    match str::from_utf8(text) {
+        Ok(text) => Ok((Value::Text(token.place, Text::copy(alloc, text)?), at + 1)),
+        Err(_) => Err(TextFault::At(token.place, TextWhat::BadUtf8)),
+    }
+}
+
+// Quoted tokens, of any number and with any escapes.
+fn read_joined(
     alloc: Global,
     tokens: &[Token<'_>],
     end: usize,

@@ -1,6 +1,6 @@
 //! Quoted tokens, their escapes, and what they stand for.
 
-ghost use Rattle.std.specs.Prelude.{◌≡◌, ◌+◌, ◌*◌, ◌^◌, ◌++◌, ◌∷◌, [], ◌≤◌, ◌<◌, length, map, option_map, OnOk};
+ghost use Rattle.std.specs.Prelude.{◌≡◌, ◌+◌, ◌*◌, ◌^◌, ◌++◌, ◌∷◌, [], ◌≤◌, ◌<◌, length, map, option_map, OnOk, IfSome};
 ghost use Rattle.std.specs.Prelude.{if◌then◌else◌, Some, None};
 ghost use Rattle.acfg_text.specs.Escapes.{is_octal, is_hexadecimal, digit_value, is_scalar, digits, number, escape_by};
 ghost use Rattle.acfg_text.specs.Escapes.{octal, hexadecimal, unicode, escape, within, value_behind, spelled};
@@ -321,6 +321,32 @@ fn unknown_escape(at: usize, text: &[u8]) -> Scan
     } else {
         Scan::Bad(at)
     }
+}
+
+/// What a quoted token stands for, as a part of it, where it has no escape.
+#[tactic(auto, unfolding(crate::specs::Escapes::spelled))]
+pub fn plain_value(token: &[u8]) -> Option<&[u8]>
+    ensures { IfSome result (λ value. value.now ≡ spelled token.now) }
+{
+    match token {
+        [] => None,
+        [quote, text @ ..] => plain_behind(*quote, text),
+    }
+}
+
+fn plain_behind(quote: u8, text: &[u8]) -> Option<&[u8]>
+    ensures { IfSome result (λ value. value.now ≡ value_behind quote 0 text.now) }
+{
+    let mut at = 0;
+    while at < text.len() {
+        match within_quotes(quote, text[at]) {
+            Within::Plain => at += 1,
+            Within::Close => return Some(&text[..at]),
+            Within::Line => return Some(&text[..at]),
+            Within::Backslash => return None,
+        }
+    }
+    Some(&text[..at])
 }
 
 /// Adds what a quoted token stands for.

@@ -7,8 +7,8 @@ ghost use Rattle.acfg_text.specs.TextFaults.{is_quoted};
 ghost use Rattle.acfg_text.specs.Reading.{ahead, ArePlain, seen_of, NoField, IsNext, SkipsEnd};
 
 use crate::classes::{Bracket, Class};
-use crate::text::Text;
 use crate::token::{Token, TokenKind};
+use acfg_base::Text;
 use std::alloc::{AllocError, Global};
 use std::str;
 

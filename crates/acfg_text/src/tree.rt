@@ -1,6 +1,6 @@
 //! Trees of texts in the Protocol Buffers text format.
 
-use crate::text::Text;
+use acfg_base::Text;
 use sqlite_items::Items;
 
 /// The fields of a text or of a message.

@@ -1,7 +1,7 @@
 -- The bytes of a text, wherever they stand.
 use Rattle.std.specs.Prelude.{ℕ, List, string_bytes}
-use Rattle.acfg_text.specs.declared.text.Form.{Form}
-use Rattle.acfg_text.specs.declared.text.Form.TheVariants.{Short, Long}
+use Rattle.acfg_base.specs.declared.text.Form.{Form}
+use Rattle.acfg_base.specs.declared.text.Form.TheVariants.{Short, Long}
 
 abbrev pub bytes_of : Form → List ℕ
 bytes_of (Short text) = text.bytes

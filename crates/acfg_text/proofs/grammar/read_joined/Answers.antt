@@ -2,7 +2,7 @@ use Rattle.std.proofs.Common.{◌∙◌, ap, subst}
 use Rattle.std.specs.Str.{IsUtf8}
 use Rattle.std.proofs.lemmas.Str.{is_utf8-from_IsUtf8, IsUtf8-string_bytes}
 use Rattle.acfg_text.proofs.Parts.{text_fails, value_read_text, not_utf8}
-use Rattle.acfg_text.proofs.grammar.read_text.Goals as goal
+use Rattle.acfg_text.proofs.grammar.read_joined.Goals as goal
 
 pub returns-in-Ok-clause-ok : goal.returns-in-Ok-clause-ok
 returns-in-Ok-clause-ok c depth =
