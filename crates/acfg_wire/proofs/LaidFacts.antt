@@ -1,6 +1,6 @@
 -- The function of the bytes, field after field.
 use Rattle.std.proofs.Common.{◌≡◌, ℕ, zero, suc, ◌+◌, ◌-◌, ◌<◌, ◌≤◌, List, [], ◌∷◌, ◌++◌, length, Result, Ok, Err, refl, sym, ap, ◌∙◌, append_assoc, arith}
-use Rattle.std.proofs.lemmas.List.{append-nil, nil_from_length}
+use Rattle.std.proofs.lemmas.List.{append-nil}
 use Rattle.acfg_wire.specs.declared.fault.Fault.{Fault}
 use Rattle.acfg_wire.specs.declared.fault.WireFault.{WireFault}
 use Rattle.acfg_wire.specs.Fields.{WireField}

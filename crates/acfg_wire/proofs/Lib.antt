@@ -10,3 +10,4 @@ pub mod Outcomes
 pub mod Put
 pub mod Shortest
 mod LaidFacts
+pub mod Laying

@@ -1,5 +1,6 @@
 -- Fields: Protocol Buffers, "Encoding", section "Message Structure".
-use Rattle.std.specs.Prelude.{◌≡◌, ℕ, ◌+◌, ◌-◌, ◌*◌, ◌<◌, ◌≤◌, List, [], ◌∷◌, ◌++◌, length, map, take, drop, slice_index, slice_index_or, slice_get, slice_range, Some}
+use Rattle.std.specs.Prelude.{◌≡◌, ℕ, ◌+◌, ◌-◌, ◌*◌, ◌<◌, ◌≤◌, List, [], ◌∷◌, ◌++◌, length, map, take, drop}
+use Rattle.std.specs.Prelude.{slice_index, slice_index_or, slice_get, slice_range, Some}
 use Rattle.acfg_wire.specs.declared.field.Field.{Field}
 use Rattle.acfg_wire.specs.declared.field.FieldValue.{FieldValue}
 use Rattle.acfg_wire.specs.declared.field.FieldValue.TheVariants as rust
@@ -44,7 +45,8 @@ pub record IsField (text : List ℕ) (f : WireField) : Type 0 where
 -- the bytes are these fields joined
 abbrev pub IsFields : List ℕ → List WireField → Type 0
 IsFields bytes [] = bytes ≡ []
-IsFields bytes (f ∷ fs) = (text : List ℕ) × ((rest : List ℕ) × (bytes ≡ text ++ rest) × IsField text f × IsFields rest fs)
+IsFields bytes (f ∷ fs) =
+    (text : List ℕ) × ((rest : List ℕ) × (bytes ≡ text ++ rest) × IsField text f × IsFields rest fs)
 
 -- Each field begins at its place: the bytes before it are the fields before it, and the bytes from there on are
 -- the fields from there on.

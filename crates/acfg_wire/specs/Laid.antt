@@ -38,3 +38,15 @@ laid bytes = laid_within (length bytes) 0 bytes
 -- a field as the code has it, with its place
 abbrev pub laid_of : List Field → List LaidField
 laid_of fields = map (λ f. (field_of f, f.place)) fields
+
+-- fields without their places, and the places
+abbrev pub fields_laid : List LaidField → List WireField
+fields_laid fields = map (λ field. field.0) fields
+
+abbrev pub places_laid : List LaidField → List ℕ
+places_laid fields = map (λ field. field.1) fields
+
+-- the outcome without places
+abbrev pub outcome_laid : Result (List LaidField) WireFault → Result (List WireField) WireFault
+outcome_laid (Ok fields) = Ok (fields_laid fields)
+outcome_laid (Err fault) = Err fault

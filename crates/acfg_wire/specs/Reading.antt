@@ -1,6 +1,7 @@
 -- What the private readers compute of the bytes at the front. No public contract cites it: `Fields` and `Faults`
 -- say what it has to be.
-use Rattle.std.specs.Prelude.{◌≡◌, ℕ, zero, suc, ◌+◌, ◌-◌, ◌*◌, ◌/◌, ◌%◌, List, [], ◌∷◌, length, take, drop, Result, Ok, Err, nat_lt, ◌==◌, if◌then◌else◌}
+use Rattle.std.specs.Prelude.{◌≡◌, ℕ, zero, suc, ◌+◌, ◌-◌, ◌*◌, ◌/◌, ◌%◌, List, [], ◌∷◌, length, take, drop, Result}
+use Rattle.std.specs.Prelude.{Ok, Err, nat_lt, ◌==◌, if◌then◌else◌}
 use Rattle.acfg_wire.specs.declared.fault.Fault.{Fault}
 use Rattle.acfg_wire.specs.declared.fault.Fault.TheVariants.{Truncated, LongVarint, BadType}
 use Rattle.acfg_wire.specs.declared.fault.WireFault.{WireFault}

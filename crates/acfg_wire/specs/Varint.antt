@@ -1,5 +1,6 @@
 -- Varints: Protocol Buffers, "Encoding", section "Base 128 Varints".
-use Rattle.std.specs.Prelude.{◌≡◌, ℕ, zero, suc, ◌+◌, ◌*◌, ◌/◌, ◌%◌, ◌^◌, ◌<◌, ◌≤◌, ◌⊎◌, List, [], ◌∷◌, length, slice_index, nat_lt, if◌then◌else◌}
+use Rattle.std.specs.Prelude.{◌≡◌, ℕ, zero, suc, ◌+◌, ◌*◌, ◌/◌, ◌%◌, ◌^◌, ◌<◌, ◌≤◌, ◌⊎◌, List, [], ◌∷◌, length}
+use Rattle.std.specs.Prelude.{slice_index, nat_lt, if◌then◌else◌}
 
 -- A byte below 128 is the last, and stands for itself. One from 128 on has the low seven bits, and the bytes
 -- behind it stand for the rest. So a number has many spellings: 0 is 00, and 80 00, and so on.

@@ -4,8 +4,10 @@
 ghost use Rattle.std.specs.Prelude.{◌≡◌, ◌^◌, ◌<◌, ◌≤◌, ℕ, List, [], ◌∷◌, ◌++◌, length, slice_index, Result, Ok};
 ghost use Rattle.acfg_wire.specs.declared.fault.WireFault.{WireFault};
 ghost use Rattle.acfg_wire.specs.Varint.{IsSpelling, IsVarint, shortest};
-ghost use Rattle.acfg_wire.specs.Fields.{varint, delimited, WireField, IsField, IsFields, IsFieldNumber, varint_field, bytes_field};
+ghost use Rattle.acfg_wire.specs.Fields.{varint, delimited, WireField, IsField, IsFields, IsFieldNumber, BeginAt};
+ghost use Rattle.acfg_wire.specs.Fields.{varint_field, bytes_field};
 ghost use Rattle.acfg_wire.specs.Outcome.{IsOutcome, behind};
+ghost use Rattle.acfg_wire.specs.Laid.{LaidField, laid, fields_laid, places_laid, outcome_laid};
 
 /// Bytes are one list of fields, or have one first fault, and nothing else.
 pub fn one_outcome()
@@ -13,6 +15,15 @@ pub fn one_outcome()
         → (outcome : Result (List WireField) WireFault) × IsOutcome bytes outcome }
     ensures one { (bytes : List ℕ) (a b : Result (List WireField) WireFault)
         → IsOutcome bytes a → IsOutcome bytes b → a ≡ b }
+{}
+
+/// The function `laid` gives the outcome of the bytes, and where fields begin.
+pub fn laid_out()
+    ensures outcome { (bytes : List ℕ) (outcome : Result (List WireField) WireFault)
+        → IsOutcome bytes outcome → outcome_laid (laid bytes) ≡ outcome }
+    ensures places { (bytes : List ℕ) (fields : List LaidField)
+        → IsFields bytes (fields_laid fields) → laid bytes ≡ Ok fields
+        → BeginAt bytes (fields_laid fields) (places_laid fields) }
 {}
 
 /// Fields stay what they are, whatever stands behind them: the fields behind follow them, and a

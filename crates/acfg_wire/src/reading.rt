@@ -1,7 +1,8 @@
 //! Bytes read as a list of fields.
 
 ghost use Rattle.std.specs.Prelude.{◌≡◌, ◌⊎◌, ℕ, List, IfOk, IfErr, MatchResult, IsErrOf, Ok, Err};
-ghost use Rattle.acfg_wire.specs.Fields.{WireField, IsFields, BeginAt, ValuesLieIn, value_of, field_of, fields_of, places_of};
+ghost use Rattle.acfg_wire.specs.Fields.{WireField, IsFields, BeginAt, ValuesLieIn, value_of, field_of, fields_of};
+ghost use Rattle.acfg_wire.specs.Fields.{places_of};
 ghost use Rattle.acfg_wire.specs.Outcome.{IsOutcome};
 ghost use Rattle.acfg_wire.specs.Laid.{laid, laid_of};
 ghost use Rattle.acfg_wire.specs.Reading.{ReadsAs, varint_at, front_at, value_at, field_at};

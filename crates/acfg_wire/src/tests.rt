@@ -195,3 +195,18 @@ fn fields_are_put(rt: HostRuntime) -> Result<(), Fail> {
     assert_eq!(rt; out.as_slice(), bytes.as_slice());
     Ok(())
 }
+
+#[test]
+fn a_thousand_fields_are_read_in_their_order(rt: HostRuntime) -> Result<(), Fail> {
+    let mut out = Vec::new(rt.alloc());
+    for number in 1..=1000 {
+        put_varint(rt.alloc(), &mut out, number, number)?;
+    }
+    let fields = read_fields(rt.alloc(), &out)?;
+    assert_eq!(rt; fields.len(), 1000);
+    for (number, field) in (1..=1000).zip(fields.iter()) {
+        assert_eq!(rt; field.number, number);
+        assert_eq!(rt; field.value, FieldValue::Varint(number));
+    }
+    Ok(())
+}
