@@ -1,0 +1,5 @@
+use Rattle.std.proofs.Common.{◌≡◌, length, take}
+use Rattle.acfg_cache.proofs.same.same_points.Given as goal
+
+abbrev pub invariant-loop-i : goal.invariant-loop-i
+invariant-loop-i l = record { long : length l.points ≡ length l.others; alike : take l.i l.points ≡ take l.i l.others }

@@ -1,0 +1,9 @@
+pub mod Table
+pub mod Parts
+pub mod Counted
+pub mod Reading
+pub mod Writing
+pub mod Merging
+pub mod Bodies
+pub mod Rows
+pub mod Texts
