@@ -2,4 +2,5 @@ pub mod Extents
 pub mod Firsts
 pub mod Joined
 pub mod OneCondition
+pub mod SomeReading
 pub mod Spelling

@@ -1,5 +1,7 @@
--- What a filter's text means: its alternatives, or the place of the first bad condition; and which flags it lets through.
-use Rattle.std.specs.Prelude.{◌≡◌, ◌≢◌, ◌<◌, ◌+◌, ◌==◌, ◌⊎◌, ℕ, Bool, true, false, List, [], ◌∷◌, ◌++◌, length, map, sum_by, All, codes}
+-- What a filter's text means: its alternatives, or the place of the first bad condition; and which flags it lets
+-- through.
+use Rattle.std.specs.Prelude.{◌≡◌, ◌≢◌, ◌<◌, ◌+◌, ◌==◌, ◌⊎◌, ℕ, Bool, true, false, codes}
+use Rattle.std.specs.Prelude.{List, [], ◌∷◌, ◌++◌, length, map, sum_by, All}
 use Rattle.std.specs.List.{AllZip, list_all, list_any, slice_split}
 use Rattle.std.specs.Str.{bytes_eq}
 use Rattle.acfg_decls.specs.declared.flags.Flag.{Flag}

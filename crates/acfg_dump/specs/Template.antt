@@ -16,7 +16,9 @@ bool_format = codes "{fully_qualified_name}={state:bool}"
 
 -- a text that is just the name of a format stands for its template, and another one for itself
 abbrev pub template_of : List ℕ → List ℕ
-template_of text = if bytes_eq text (codes "text") then text_format else (if bytes_eq text (codes "bool") then bool_format else text)
+template_of text =
+    if bytes_eq text (codes "text") then text_format
+    else (if bytes_eq text (codes "bool") then bool_format else text)
 
 -- the text is that of the parts
 abbrev pub IsTemplate : List ℕ → List Part → Type 0

@@ -1,4 +1,5 @@
 use Rattle.acfg_dump.proofs.OneCondition.{never_both, one_bad, one_filter}
+use Rattle.acfg_dump.proofs.SomeReading.{some_filter}
 use Rattle.acfg_dump.proofs.laws.one_filter.Goals as goal
 
 pub returns-clause-one : goal.returns-clause-one
@@ -9,3 +10,6 @@ returns-clause-place c = one_bad
 
 pub returns-clause-never_both : goal.returns-clause-never_both
 returns-clause-never_both c = never_both
+
+pub returns-clause-some : goal.returns-clause-some
+returns-clause-some c = some_filter
