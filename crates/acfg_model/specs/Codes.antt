@@ -24,7 +24,8 @@ boot_code = code key_code booted_code
 abbrev pub container_code : Coded Container
 container_code =
     code_by (List ℕ × (ReleaseMap × (OverrideMap × (OverrideMap × Option BootMap))))
-    (coded× (coded_list coded_ℕ) (coded× release_code (coded× override_code (coded× override_code (coded_option boot_code)))))
+    (coded× (coded_list coded_ℕ)
+    (coded× release_code (coded× override_code (coded× override_code (coded_option boot_code)))))
     (λ c. (c.digest, (c.release, (c.server, (c.local, c.boot)))))
     (λ p. record { digest = p.0; release = p.1.0; server = p.1.1.0; local = p.1.1.1.0; boot = p.1.1.1.1 })
     (λ _. refl)

@@ -2,8 +2,10 @@
 use Rattle.std.specs.Prelude.{◌≡◌, ℕ, ◌==◌, List, [], ◌∷◌, find, codes}
 use Rattle.std.specs.Option.{option_map_or}
 use Rattle.acfg_model.specs.declared.refusals.Refusal.{Refusal}
-use Rattle.acfg_model.specs.declared.refusals.Refusal.TheVariants.{BadRequest, UnknownContainer, UnknownFlag, ReadOnly, NoBootCopy, NotBooted}
-use Rattle.acfg_model.specs.declared.refusals.Refusal.TheVariants.{NoOverride, MissingFile, BadImage, FilesDisagree, TooManyContainers, TooLong}
+use Rattle.acfg_model.specs.declared.refusals.Refusal.TheVariants.{BadRequest, UnknownContainer, UnknownFlag}
+use Rattle.acfg_model.specs.declared.refusals.Refusal.TheVariants.{ReadOnly, NoBootCopy, NotBooted, NoOverride}
+use Rattle.acfg_model.specs.declared.refusals.Refusal.TheVariants.{MissingFile, BadImage, FilesDisagree}
+use Rattle.acfg_model.specs.declared.refusals.Refusal.TheVariants.{TooManyContainers, TooLong}
 
 abbrev pub told_as : Refusal → ℕ × List ℕ
 told_as BadRequest = (1, codes "bad-request")

@@ -17,7 +17,8 @@ use Rattle.acfg_model.specs.declared.requests.Reply.TheVariants.{Fine, Updated, 
 use Rattle.acfg_model.specs.declared.requests.Request.{Request}
 use Rattle.acfg_model.specs.declared.requests.Request.TheVariants.{Update, Server, Local, Unset, Boot, Get}
 use Rattle.acfg_model.specs.Refusals.{number_of}
-use Rattle.acfg_model.specs.State.{BootedFlag, BootMap, Container, OverrideMap, State, is_writable, pick, most_containers}
+use Rattle.acfg_model.specs.State.{BootedFlag, BootMap, Container, OverrideMap, State}
+use Rattle.acfg_model.specs.State.{is_writable, pick, most_containers}
 
 -- a refused request leaves the state as it was
 abbrev pub refused : State → Refusal → State × Reply
@@ -64,7 +65,8 @@ replaced state name (Some (Ok container)) = (insert state name container, Fine)
 replaced state name (Some (Err why)) = refused state why
 
 abbrev pub change_step : State → List ℕ → Change → State × Reply
-change_step state name change = replaced state name (option_map (λ container. with_change container change) (get state name))
+change_step state name change =
+    replaced state name (option_map (λ container. with_change container change) (get state name))
 
 -- a flag of the release as it is booted: with its pick, and a note of each override that it has
 abbrev pub booted_flag_of : Container → Key → Kind × Bool → BootedFlag
@@ -89,7 +91,8 @@ boot_value_in (Some boot) key = Ok (option_map (λ flag. flag.value) (get boot k
 -- a flag's value in the boot copy of a container, where there are all three
 abbrev pub booted_value : State → List ℕ → Key → Option Bool
 booted_value state name key =
-    option_and_then (λ container. option_and_then (λ boot. option_map (λ flag. flag.value) (get boot key)) container.boot)
+    option_and_then
+    (λ container. option_and_then (λ boot. option_map (λ flag. flag.value) (get boot key)) container.boot)
     (get state name)
 
 abbrev pub value_reply : Option (Result (Option Bool) Refusal) → Reply

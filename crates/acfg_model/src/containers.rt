@@ -4,7 +4,8 @@ ghost use Rattle.std.specs.Prelude.{◌≡◌, IfOk, OnOk, OnErr, map, option_ma
 ghost use Rattle.acfg_base.specs.Places.{AreInOrder, map_where};
 ghost use Rattle.acfg_base.specs.Release.{key_cmp, entries_of, HasLawfulKeys};
 ghost use Rattle.acfg_model.specs.FlagStates.{row_key, release_in, booted_row, carried_row, changed_row, override_in};
-ghost use Rattle.acfg_model.specs.FlagStates.{IsChangeable, IsOutcome, IsSettable, IsUnsettable};
+ghost use Rattle.acfg_model.specs.FlagStates.{IsChangeable, IsLawful, IsOutcome, IsSettable, IsUnsettable};
+ghost use Rattle.acfg_model.specs.FlagStates.{container_in};
 ghost use Rattle.acfg_model.specs.State.{IsDigest, IsValidContainer};
 ghost use Rattle.acfg_model.specs.Step.{boot_map, booted, boot_value_in, fresh, with_change, with_release};
 ghost use Rattle.acfg_model.specs.Views.{boot_of, overrides_of, container_of};
@@ -118,7 +119,8 @@ impl Model for Container {
 
     ghost view = { λ kept. container_in kept.digest kept.rows.items (option_map boot_of kept.boot) };
 
-    ghost invariant = { λ kept. IsLawful kept.rows.items (container_in kept.digest kept.rows.items (option_map boot_of kept.boot)) };
+    ghost invariant = { λ kept. IsLawful kept.rows.items
+        (container_in kept.digest kept.rows.items (option_map boot_of kept.boot)) };
 }
 
 impl Container {
@@ -150,6 +152,15 @@ impl Container {
             rows,
             boot: None,
         })
+    }
+
+    /// The container that was kept elsewhere: the flags of its release with their overrides, and its boot copy. It
+    /// takes no memory.
+    pub fn kept(digest: [u8; 32], rows: Vec<FlagState>, boot: Option<BootCopy>) -> Container
+        requires { IsLawful rows.items (container_in digest rows.items (option_map boot_of boot)) }
+        ensures { result ≡ container_in digest rows.items (option_map boot_of boot) }
+    {
+        Container { digest, rows, boot }
     }
 
     /// Takes another release, and keeps the overrides of the flags that are read-write there.

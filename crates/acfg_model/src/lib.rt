@@ -8,6 +8,7 @@ mod refusals;
 mod requests;
 mod views;
 
+pub use containers::{Container, FlagState};
 pub use machines::Machine;
 pub use refusals::Refusal;
 pub use requests::{Loaded, Reply, Request};

@@ -265,7 +265,8 @@ fn shown(alloc: Global, containers: &[NamedContainer]) -> Result<State, AllocErr
 
 // The boot copies that a boot would make, one for each container.
 fn boot_copies(alloc: Global, containers: &[NamedContainer]) -> Result<Vec<BootCopy>, AllocError>
-    ensures { IfOk result (λ copies. map boot_of copies.items ≡ map (λ named. boot_map named.container) containers.now) }
+    ensures { IfOk result (λ copies. map boot_of copies.items
+        ≡ map (λ named. boot_map named.container) containers.now) }
 {
     let mut copies = Vec::with_capacity(alloc, containers.len())?;
     for named in containers {

@@ -70,7 +70,8 @@ impl Refusal {
 
     /// The refusal that replies tell by a number, where there is one.
     pub fn numbered(number: u8) -> Option<Refusal>
-        ensures { MatchOption result ((refusal : _) → number ≢ number_of refusal) (λ refusal. number ≡ number_of refusal) }
+        ensures { MatchOption result
+            ((refusal : _) → number ≢ number_of refusal) (λ refusal. number ≡ number_of refusal) }
     {
         match number {
             1 => Some(Refusal::BadRequest),
