@@ -141,7 +141,8 @@ pub fn one_transcript()
 
 /// It can't be that a script has no transcript, nor that bytes load nothing.
 pub fn some_transcript()
-    ensures loads { (container path bytes : List ℕ) → ¬ ((loaded : Loaded) → BytesLoad container path bytes loaded → ⊥) }
+    ensures loads { (container path bytes : List ℕ)
+        → ¬ ((loaded : Loaded) → BytesLoad container path bytes loaded → ⊥) }
     ensures script { (files : Files) (state : State) (number : ℕ) (lines : List (List ℕ))
         → ¬ ((text : List ℕ) → Transcript files state number lines text → ⊥) }
 {}

@@ -57,10 +57,9 @@ fn read_as(alloc: Global, text: &[u8]) -> Result<String, Fail> {
     }
 }
 
-#[test]
-fn requests_and_near_misses(rt: HostRuntime) -> Result<(), Fail> {
-    let alloc = rt.alloc();
-    let table = [
+// Lines, and what each is read as.
+fn spellings() -> [(&'static str, &'static str); 38] {
+    [
         ("update c rel1", "Update, c, rel1"),
         ("update c.d /data/\u{e9}/-x", "Update, c.d, /data/\u{e9}/-x"),
         ("server c com.a f true", "Server, c, com.a, f, true"),
@@ -99,8 +98,13 @@ fn requests_and_near_misses(rt: HostRuntime) -> Result<(), Fail> {
         ("unset-all c", "none"),
         ("info c com.a f", "none"),
         ("list c", "none"),
-    ];
-    for (text, wanted) in table {
+    ]
+}
+
+#[test]
+fn requests_and_near_misses(rt: HostRuntime) -> Result<(), Fail> {
+    let alloc = rt.alloc();
+    for (text, wanted) in spellings() {
         let read = read_as(alloc, text.as_bytes())?;
         assert_eq!(rt; read.as_str(), wanted, "for {text:?}");
     }
@@ -117,10 +121,9 @@ fn requests_and_near_misses(rt: HostRuntime) -> Result<(), Fail> {
     Ok(())
 }
 
-#[test]
-fn lines_of_replies(rt: HostRuntime) -> Result<(), Fail> {
-    let alloc = rt.alloc();
-    let table = [
+// A client, a reply, and the line that tells it.
+fn replies() -> [(u8, Reply, &'static str); 18] {
+    [
         (0, Reply::Fine, "0 ok\n"),
         (
             9,
@@ -143,8 +146,13 @@ fn lines_of_replies(rt: HostRuntime) -> Result<(), Fail> {
         (0, Reply::Refused(10), "0 err 10 files-disagree\n"),
         (0, Reply::Refused(11), "0 err 11 too-many-containers\n"),
         (0, Reply::Refused(12), "0 err 12 too-long\n"),
-    ];
-    for (client, reply, wanted) in table {
+    ]
+}
+
+#[test]
+fn lines_of_replies(rt: HostRuntime) -> Result<(), Fail> {
+    let alloc = rt.alloc();
+    for (client, reply, wanted) in replies() {
         if let Reply::Refused(number) = reply {
             assert!(rt; Refusal::numbered(number).is_some());
         }
