@@ -1,10 +1,9 @@
 -- No byte is unlawful, and nothing disagrees, exactly where bits are lawful and the files agree.
-use Rattle.std.proofs.Common.{◌≡◌, ℕ, zero, suc, ◌+◌, ◌-◌, ◌<◌, ◌≤◌, Bool, true, false, cond, eqb, ltb, not, ◌||◌, ◌&&◌, List, [], ◌∷◌, length, get_or, drop, map, All, Option, Some, None, ◌⊎◌, inl, inr, refl, sym, ap, subst, ◌∙◌, arith}
-use Rattle.std.specs.Prelude.{count_by}
+use Rattle.std.proofs.Common.{◌≡◌, ℕ, ◌+◌, ◌<◌, ◌≤◌, Bool, true, false, cond, eqb, ltb, not, ◌||◌, List, [], ◌∷◌, length, get_or, drop, map, All, Option, Some, None, inl, inr, refl, sym, ap, subst, ◌∙◌, arith}
 use Rattle.std.specs.List.{list_any, list_all}
 use Rattle.std.specs.Option.{option_map}
 use Rattle.std.specs.Str.{bytes_eq}
-use Rattle.std.proofs.lemmas.Bool.{cases_eq, not-false, not_from_true, ltb-true, ltb-false, lt-ltb, le-ltb, eqb-true, eq-eqb, ne_eqb, true_from_ne_false, both_ways}
+use Rattle.std.proofs.lemmas.Bool.{cases_eq, not-false, ltb-true, ltb-false, lt-ltb, le-ltb, eqb-true, eq-eqb, ne_eqb, true_from_ne_false, both_ways}
 use Rattle.std.proofs.lemmas.Bool.Decides.{nat_tests, Decides-by_and}
 use Rattle.std.proofs.lemmas.List.{get_or-drop, length-drop, length-map}
 use Rattle.std.proofs.lemmas.List.Elements.{All-nil, All-cons, All-head, All-tail, All-from_get_or}
@@ -19,7 +18,6 @@ use Rattle.acfg_images.specs.declared.purpose.Use.TheVariants.{Release, Copy}
 use Rattle.acfg_images.specs.declared.fault.FileType.TheVariants.{FlagVal, FlagInfo}
 use Rattle.acfg_images.specs.declared.fault.Point2.TheVariants.{Container, Id, Count, Index}
 use Rattle.acfg_images.specs.declared.fault.Point2.TheVariants as on
-use Rattle.acfg_images.specs.declared.fault.ImageFault.{ImageFault}
 use Rattle.acfg_images.specs.declared.fault.ImageFault.TheVariants.{Bits, Disagree}
 use Rattle.acfg_images.specs.Words.{least, AreNumbered}
 use Rattle.acfg_images.specs.Set.{SetParts, IsInfo, Agree, index_of, has_read_write, is_read_write}

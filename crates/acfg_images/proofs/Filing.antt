@@ -18,7 +18,7 @@ use Rattle.acfg_images.proofs.Sizes.{package_size, flag_size}
 
 -- ---- buckets
 
-length-numbers_below : (n : ℕ) → length (numbers_below n) ≡ n
+pub length-numbers_below : (n : ℕ) → length (numbers_below n) ≡ n
 length-numbers_below zero = refl
 length-numbers_below (suc n) = omega (arith, length-append (numbers_below n) (n ∷ []), length-numbers_below n)
 

@@ -122,7 +122,7 @@ seen_more (n ∷ ns) name = ap (λ (rest : List (List ℕ)). n ∷ without n res
 
 -- ---- groups by the definition
 
-abbrev Distinct : List (List ℕ) → Type 0
+abbrev pub Distinct : List (List ℕ) → Type 0
 Distinct [] = Unit {0}
 Distinct (name ∷ names) = (among name names ≡ false) × Distinct names
 
@@ -134,7 +134,7 @@ Distinct-without gone (n ∷ ns) distinct = by (Distinct-without gone ns distinc
     by rest true here = rw here rest
     by rest false apart = rw apart (among_others n gone ns apart ∙ distinct.0, rest)
 
-Distinct-first_seen : (names : List (List ℕ)) → Distinct (first_seen names)
+pub Distinct-first_seen : (names : List (List ℕ)) → Distinct (first_seen names)
 Distinct-first_seen [] = tt
 Distinct-first_seen (n ∷ ns) = (among_gone n (first_seen ns), Distinct-without n (first_seen ns) (Distinct-first_seen ns))
 

@@ -15,7 +15,7 @@ pub total_is : (groups : List Group) → length (all_flags groups) ≡ total gro
 total_is [] = refl
 total_is (group ∷ groups) = omega (arith, total_is groups, length-append group.1 (all_flags groups))
 
-packages_count : (id start : ℕ) (groups : List Group) → length (packages_from id start groups) ≡ length groups
+pub packages_count : (id start : ℕ) (groups : List Group) → length (packages_from id start groups) ≡ length groups
 packages_count id start [] = refl
 packages_count id start (group ∷ groups) = omega (arith, packages_count (id + 1) (start + length group.1) groups)
 
@@ -23,7 +23,7 @@ flags_count : (id index : ℕ) (flags : List Compiled) → length (flags_from id
 flags_count id index [] = refl
 flags_count id index (flag ∷ flags) = omega (arith, flags_count id (index + 1) flags)
 
-nodes_count : (id : ℕ) (groups : List Group) → length (flag_nodes_from id groups) ≡ total groups
+pub nodes_count : (id : ℕ) (groups : List Group) → length (flag_nodes_from id groups) ≡ total groups
 nodes_count id [] = refl
 nodes_count id (group ∷ groups) = omega (arith, nodes_count (id + 1) groups, flags_count id 0 group.1, length-append (flags_from id 0 group.1) (flag_nodes_from (id + 1) groups))
 

@@ -1,17 +1,12 @@
 -- No key comes twice, and no bucket or link is wrong, exactly where a map is linked.
-use Rattle.std.proofs.Common.{◌≡◌, ◌≢◌, ℕ, zero, suc, ◌+◌, ◌*◌, ◌<◌, ◌≤◌, Bool, true, false, cond, eqb, not, ◌||◌, ◌&&◌, List, [], ◌∷◌, ◌++◌, length, get_or, Option, Some, None, refl, sym, ap, subst, ◌∙◌, arith}
-use Rattle.std.specs.Prelude.{AllPairs}
+use Rattle.std.proofs.Common.{◌≡◌, ◌≢◌, ℕ, zero, suc, ◌+◌, ◌*◌, ◌<◌, Bool, true, false, cond, eqb, not, ◌||◌, List, [], ◌∷◌, ◌++◌, length, get_or, Option, Some, None, refl, sym, ap, subst, ◌∙◌, arith}
 use Rattle.std.specs.List.{list_any}
 use Rattle.std.specs.Option.{option_map}
-use Rattle.std.specs.Str.{bytes_eq}
 use Rattle.std.proofs.lemmas.Bool.{or_parts, or_from, false_from_ne_true, not-false, eqb-true, eq-eqb, both_ways}
 use Rattle.std.proofs.lemmas.List.Folds.{list_any-append}
 use Rattle.std.proofs.lemmas.Slice.Eq.{bytes_eq-Decides}
-use Rattle.acfg_views.specs.Reading.{OpenMap}
 use Rattle.acfg_images.specs.declared.fault.FileType.{FileType}
-use Rattle.acfg_images.specs.declared.fault.ImageFault.{ImageFault}
 use Rattle.acfg_images.specs.declared.fault.ImageFault.TheVariants.{Twice, Chain}
-use Rattle.acfg_images.specs.Words.{least}
 use Rattle.acfg_images.specs.Links.{NodeKey, Link, bucket_of, same_owner, same_key, first_in, HaveOwnKeys, HoldFirst, LeadOn, AreLinked}
 use Rattle.acfg_images.specs.Faults.{or_else, twice, twice_behind, wrong_bucket, wrong_next, wrong_chain, wrong_links}
 use Rattle.acfg_images.proofs.Keys.{same_key-is}

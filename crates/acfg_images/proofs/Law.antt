@@ -1,11 +1,8 @@
 -- No fault stands exactly where four files are a set.
-use Rattle.std.proofs.Common.{◌≡◌, ℕ, ◌+◌, ◌*◌, ◌-◌, ◌/◌, ◌<◌, ◌≤◌, ◌^◌, Bool, true, false, cond, ltb, List, [], length, drop, All, Option, Some, None, Result, Ok, Err, refl, sym, ap, subst, ◌∙◌, ◌⊎◌, inl, inr, arith, lit<}
-use Rattle.std.specs.Prelude.{min}
+use Rattle.std.proofs.Common.{◌≡◌, ℕ, ◌≤◌, false, ltb, List, length, drop, All, Option, Some, None, Result, Ok, Err, refl, sym, ap, subst, ◌∙◌, ◌⊎◌, inl, inr, arith, lit<}
 use Rattle.std.proofs.lemmas.Bool.{le-ltb}
-use Rattle.acfg_base.specs.Release.{ReleaseMap}
-use Rattle.acfg_views.specs.declared.fault.ViewFault.{ViewFault}
-use Rattle.acfg_views.specs.Fields.{IsBytes, numbers}
-use Rattle.acfg_views.specs.Layout.{Package, Flag, package_node, flag_node, IsPackageNode, IsFlagNode, map_header_size, first_node_of, MapParts, ListParts, package_map_type, flag_map_type, flag_val_type, flag_info_type}
+use Rattle.acfg_views.specs.Fields.{IsBytes}
+use Rattle.acfg_views.specs.Layout.{Package, Flag, package_node, flag_node, IsPackageNode, IsFlagNode, first_node_of, MapParts, ListParts, package_map_type, flag_map_type, flag_val_type, flag_info_type}
 use Rattle.acfg_views.specs.Reading.{OpenMap, OpenList, opened_map, opened_list, bucket_count, package_at, flag_at}
 use Rattle.acfg_views.specs.Parts.{parts_of, list_parts_of, open_parts, open_list_parts, HasNodes}
 use Rattle.acfg_views.proofs.FileFacts.{package_exact, flag_exact, opened_map-offsets, opened_map-first_bucket, opened_list-offsets}
@@ -13,18 +10,18 @@ use Rattle.acfg_views.proofs.Parts.{open_map_has_parts, open_list_has_parts, map
 use Rattle.acfg_views.proofs.Buckets.{length-numbers}
 use Rattle.acfg_images.specs.declared.purpose.Use.{Use}
 use Rattle.acfg_images.specs.declared.fault.FileType.{FileType}
-use Rattle.acfg_images.specs.declared.fault.FileType.TheVariants.{PackageMap, FlagMap, FlagVal, FlagInfo}
+use Rattle.acfg_images.specs.declared.fault.FileType.TheVariants.{PackageMap, FlagMap}
 use Rattle.acfg_images.specs.declared.fault.ImageFault.{ImageFault}
-use Rattle.acfg_images.specs.declared.fault.ImageFault.TheVariants.{View, TooLarge, OutOfMemory}
+use Rattle.acfg_images.specs.declared.fault.ImageFault.TheVariants.{OutOfMemory}
 use Rattle.acfg_images.specs.Files.{Files, bytes_in_all}
-use Rattle.acfg_images.specs.Links.{Link, package_links, flag_links, AreLinked, links_of_packages, links_of_flags}
-use Rattle.acfg_images.specs.Set.{MOST_BYTES, SetParts, Notes, IsInfo, Agree, IsSetOf, IsSet, release_in, notes_in}
-use Rattle.acfg_images.specs.Faults.{◌>>=◌, unless, or_else, too_large, view_of, Opened, opened_set, opened_files, files_in, nodes_in, nodes_of, nodes_or_none, link_fault, package_part, flag_part, packages_in, flags_in, parts_in, bits_fault, disagreement, container_fault, id_fault, count_fault, HasNoFault, checked, checked_files}
+use Rattle.acfg_images.specs.Links.{package_links, flag_links, AreLinked, links_of_packages, links_of_flags}
+use Rattle.acfg_images.specs.Set.{MOST_BYTES, SetParts, IsInfo, Agree, IsSetOf, release_in, notes_in}
+use Rattle.acfg_images.specs.Faults.{◌>>=◌, unless, Opened, opened_set, opened_files, files_in, nodes_in, nodes_of, nodes_or_none, link_fault, package_part, flag_part, packages_in, flags_in, parts_in, bits_fault, disagreement, container_fault, id_fault, count_fault, HasNoFault, checked, checked_files}
 use Rattle.acfg_images.specs.Views.{AreOpenFiles}
 use Rattle.acfg_images.specs.Laws.{AreBytes, IsOneSet, IsNoSet, FaultlessAreSets, SetsAreFaultless}
 use Rattle.acfg_images.proofs.Walk.{length-nodes_in}
-use Rattle.acfg_images.proofs.Stages.{bind_ok, view_ok, opened_small, opened_same, packages_linked, flags_linked, goes_on}
-use Rattle.acfg_images.proofs.KeysAre.{linked, no_wrong_links, or_else_none, or_else_both}
+use Rattle.acfg_images.proofs.Stages.{bind_ok, AreOpened, are_opened, opened_small, opened_same, packages_linked, flags_linked, goes_on}
+use Rattle.acfg_images.proofs.KeysAre.{linked, no_wrong_links, or_else_none}
 use Rattle.acfg_images.proofs.NodesAre.{has_nodes, nodes_read}
 use Rattle.acfg_images.proofs.AgreeAre.{HasCount, lawful_bits, no_bits_fault, parts_with, counts, agree, no_disagreement}
 
@@ -116,45 +113,6 @@ faultless_checked purpose opened packages flags is =
     rw (a, b, is.bits, is.agree) refl
 
 -- ---- four files, opened
-
-pub record AreOpened (files : Files) (opened : Opened) : Type 0 where
-  pub package_map : opened_map package_map_type files.package_map ≡ Ok opened.package_map
-  pub flag_map : opened_map flag_map_type files.flag_map ≡ Ok opened.flag_map
-  pub values : opened_list flag_val_type files.flag_val ≡ Ok opened.values
-  pub infos : opened_list flag_info_type files.flag_info ≡ Ok opened.infos
-
-abbrev o_all : OpenMap → OpenMap → OpenList → OpenList → Result Opened ImageFault
-o_all packages flags values infos = Ok (record { package_map = packages; flag_map = flags; values = values; infos = infos })
-
-abbrev o_values : Files → OpenMap → OpenMap → OpenList → Result Opened ImageFault
-o_values files packages flags values = view_of FlagInfo (opened_list flag_info_type files.flag_info) >>= o_all packages flags values
-
-abbrev o_flags : Files → OpenMap → OpenMap → Result Opened ImageFault
-o_flags files packages flags = view_of FlagVal (opened_list flag_val_type files.flag_val) >>= o_values files packages flags
-
-abbrev o_packages : Files → OpenMap → Result Opened ImageFault
-o_packages files packages = view_of FlagMap (opened_map flag_map_type files.flag_map) >>= o_flags files packages
-
-are_opened : (files : Files) (opened : Opened) → opened_files files ≡ Ok opened → AreOpened files opened
-unfolding opened_files
-are_opened files opened e =
-    let a = bind_ok (view_of PackageMap (opened_map package_map_type files.package_map)) (o_packages files) opened e in
-    let b = bind_ok (view_of FlagMap (opened_map flag_map_type files.flag_map)) (o_flags files a.0) opened a.2 in
-    let c = bind_ok (view_of FlagVal (opened_list flag_val_type files.flag_val)) (o_values files a.0 b.0) opened b.2 in
-    let d = bind_ok (view_of FlagInfo (opened_list flag_info_type files.flag_info)) (o_all a.0 b.0 c.0) opened c.2 in
-    let made : Opened = record { package_map = a.0; flag_map = b.0; values = c.0; infos = d.0 } in
-    subst (AreOpened files) (ok_is made opened d.2) (record {
-      package_map = view_ok PackageMap _ a.0 a.1;
-      flag_map = view_ok FlagMap _ b.0 b.1;
-      values = view_ok FlagVal _ c.0 c.1;
-      infos = view_ok FlagInfo _ d.0 d.1;
-    })
-  where
-    ok : Opened → Result Opened ImageFault
-    ok x = Ok x
-
-    ok_is : (x y : Opened) → ok x ≡ ok y → x ≡ y
-    ok_is x y p = cc
 
 opens : (files : Files) (opened : Opened) → AreOpened files opened → opened_files files ≡ Ok opened
 unfolding opened_files

@@ -22,3 +22,7 @@ pub mod Emptied
 pub mod Numbering
 pub mod Filing
 pub mod Imaging
+pub mod Moved
+pub mod LinkedAre
+pub mod MadeRows
+pub mod ImageSets

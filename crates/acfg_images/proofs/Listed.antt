@@ -58,11 +58,11 @@ module _ {Y : Type 0} (p : Y → Bool) where
 -- ---- links stand as their nodes do
 
 module _ {N : Type 0} (node : N → List ℕ) (key : N → NodeKey) (next : N → ℕ) where
-  length-links_from : (at : ℕ) (ns : List N) → length (links_from node key next at ns) ≡ length ns
+  pub length-links_from : (at : ℕ) (ns : List N) → length (links_from node key next at ns) ≡ length ns
   length-links_from at [] = refl
   length-links_from at (n ∷ ns) = let h = length-links_from (at + length (node n)) ns in omega arith
 
-  key_at : (at : ℕ) (ns : List N) (k : ℕ) (d : Link) (e : N) → k < length ns → (get_or (links_from node key next at ns) k d).key ≡ key (get_or ns k e)
+  pub key_at : (at : ℕ) (ns : List N) (k : ℕ) (d : Link) (e : N) → k < length ns → (get_or (links_from node key next at ns) k d).key ≡ key (get_or ns k e)
   key_at at [] k d e lt = absurd (omega arith)
   key_at at (n ∷ ns) zero d e lt = refl
   key_at at (n ∷ ns) (suc k) d e lt = key_at (at + length (node n)) ns k d e (omega arith)

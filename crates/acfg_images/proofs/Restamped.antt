@@ -1,14 +1,18 @@
 -- A set with other values and bits is a set.
 use Rattle.std.proofs.Common.{◌≡◌, ℕ, ◌+◌, ◌-◌, ◌<◌, ◌≤◌, List, [], ◌++◌, length, get_or, take, map, All, refl, sym, ap, subst, ◌∙◌, arith}
-use Rattle.std.proofs.lemmas.List.{length-append, length-map, take_at}
+use Rattle.std.proofs.lemmas.List.{get_or-drop, length-append, length-drop, length-map, take_at}
 use Rattle.std.proofs.Math.ListN.{get_or-map}
 use Rattle.acfg_views.specs.Layout.{Flag, ListParts, list_header, list_header_size, list_size, list_file, IsListFile, IsPackageMapFile, IsFlagMapFile, flag_val_type, flag_info_type}
+use Rattle.acfg_views.specs.Reading.{byte_in}
 use Rattle.acfg_views.proofs.FileFacts.{length-list_header}
 use Rattle.acfg_images.specs.declared.purpose.Use.{Use}
 use Rattle.acfg_images.specs.declared.purpose.Use.TheVariants.{Copy}
 use Rattle.acfg_images.specs.Files.{Files, bytes_in_all}
-use Rattle.acfg_images.specs.Set.{SetParts, packages_of, flags_of, index_of, has_read_write, Agree, IsSetOf}
+use Rattle.acfg_images.specs.Set.{SetParts, packages_of, flags_of, index_of, has_read_write, IsInfo, Agree, IsSetOf}
+use Rattle.acfg_images.specs.Faults.{Opened, parts_in}
+use Rattle.acfg_images.specs.Views.{AreOpenFiles}
 use Rattle.acfg_images.specs.Restamp.{restamped, CanRestamp}
+use Rattle.acfg_images.proofs.Law.{has_count}
 use Rattle.acfg_images.proofs.Pigeon.{AreNumbered-below}
 
 module _ (file_type : ℕ) (file bytes new : List ℕ) (parts : ListParts) (is : IsListFile file_type file parts) (count : length new ≡ length parts.bytes) (made : bytes ≡ take (length file - length new) file ++ new) where
@@ -78,3 +82,17 @@ module _ (purpose : Use) (files made : Files) (parts : SetParts) (values infos :
           kinds = λ j d lt. kinds j d lt ∙ is.agree.kinds j d lt;
         };
       }
+
+-- what bytes can stand in place of those of open files, byte by byte
+pub can_restamp : (opened : Opened) → AreOpenFiles opened → (values infos : List ℕ) → length values ≡ opened.values.count → length infos ≡ opened.infos.count → All (λ byte. byte ≤ 1) values → All (IsInfo Copy) infos
+    → ((k : ℕ) → k < length infos → has_read_write (get_or infos k 0) ≡ has_read_write (byte_in opened.infos k)) → CanRestamp (parts_in opened) values infos
+can_restamp opened are values infos value_count info_count low lawful same =
+    let v = has_count flag_val_type opened.values.file opened.values are.values.opened in
+    let i = has_count flag_info_type opened.infos.file opened.infos are.infos.opened in
+    record {
+      value_count = omega (arith, value_count, v, length-drop opened.values.first_byte opened.values.file);
+      info_count = omega (arith, info_count, i, length-drop opened.infos.first_byte opened.infos.file);
+      value_bytes = low;
+      info_bytes = lawful;
+      kinds = λ k lt. same k lt ∙ ap has_read_write (sym (get_or-drop opened.infos.first_byte opened.infos.file k 0));
+    }

@@ -24,14 +24,14 @@ module _ {R : Type 0} (bucket : R → ℕ) where
       let test : ltb (bucket row) n ≡ false = grind (arith, nat_tests) in
       rw test (none_below n rows (λ i d lt. high (suc i) d (omega arith)))
 
-  all_below : (n : ℕ) (rows : List R) → ((i : ℕ) (d : R) → i < length rows → bucket (get_or rows i d) < n) → below n rows ≡ rows
+  pub all_below : (n : ℕ) (rows : List R) → ((i : ℕ) (d : R) → i < length rows → bucket (get_or rows i d) < n) → below n rows ≡ rows
   all_below n [] low = refl
   all_below n (row ∷ rows) low =
       let most : bucket row < n = low 0 row (omega arith) in
       let test : ltb (bucket row) n ≡ true = grind (arith, nat_tests) in
       rw test (ap (λ (rs : List R). row ∷ rs) (all_below n rows (λ i d lt. low (suc i) d (omega arith))))
 
-  zero_below : (rows : List R) → below 0 rows ≡ []
+  pub zero_below : (rows : List R) → below 0 rows ≡ []
   zero_below rows = none_below 0 rows (λ i d lt. omega arith)
 
   -- of rows that don't fall, those of a bucket stand behind those of the ones below it

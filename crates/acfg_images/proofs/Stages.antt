@@ -1,5 +1,5 @@
 -- One step of the check behind another.
-use Rattle.std.proofs.Common.{◌≡◌, ℕ, ◌≤◌, ◌^◌, List, length, drop, map, Option, Some, None, Result, Ok, Err, ◌⊎◌, inl, inr, Bool, true, false, cond, ltb, ◌-◌, refl, sym, ap, ◌∙◌}
+use Rattle.std.proofs.Common.{◌≡◌, ℕ, ◌≤◌, ◌^◌, List, length, drop, map, Option, Some, None, Result, Ok, Err, ◌⊎◌, inl, inr, Bool, true, false, cond, ltb, ◌-◌, refl, sym, ap, subst, ◌∙◌}
 use Rattle.acfg_views.specs.Layout.{Package, Flag, package_map_type, flag_map_type, flag_val_type, flag_info_type}
 use Rattle.acfg_views.specs.Reading.{OpenMap, OpenList, opened_map, opened_list, bucket_count, package_at, flag_at, package_of, flag_of}
 use Rattle.acfg_views.specs.declared.nodes.PackageNode.{PackageNode}
@@ -116,6 +116,13 @@ files_from a b c d = record { package_map = a; flag_map = b; flag_val = c; flag_
 same_files : (a b c d a' b' c' d' : List ℕ) → a ≡ a' → b ≡ b' → c ≡ c' → d ≡ d' → files_from a b c d ≡ files_from a' b' c' d'
 same_files a b c d a' b' c' d' p q r s = cc
 
+-- each of the four files opens
+pub record AreOpened (files : Files) (opened : Opened) : Type 0 where
+  pub package_map : opened_map package_map_type files.package_map ≡ Ok opened.package_map
+  pub flag_map : opened_map flag_map_type files.flag_map ≡ Ok opened.flag_map
+  pub values : opened_list flag_val_type files.flag_val ≡ Ok opened.values
+  pub infos : opened_list flag_info_type files.flag_info ≡ Ok opened.infos
+
 abbrev o_all : OpenMap → OpenMap → OpenList → OpenList → Result Opened ImageFault
 o_all packages flags values infos = Ok (record { package_map = packages; flag_map = flags; values = values; infos = infos })
 
@@ -128,18 +135,27 @@ o_flags files packages flags = view_of FlagVal (opened_list flag_val_type files.
 abbrev o_packages : Files → OpenMap → Result Opened ImageFault
 o_packages files packages = view_of FlagMap (opened_map flag_map_type files.flag_map) >>= o_flags files packages
 
-opened_files-same : (files : Files) (opened : Opened) → opened_files files ≡ Ok opened → files_in opened ≡ files
+pub are_opened : (files : Files) (opened : Opened) → opened_files files ≡ Ok opened → AreOpened files opened
 unfolding opened_files
-opened_files-same files opened e =
+are_opened files opened e =
     let a = bind_ok (view_of PackageMap (opened_map package_map_type files.package_map)) (o_packages files) opened e in
     let b = bind_ok (view_of FlagMap (opened_map flag_map_type files.flag_map)) (o_flags files a.0) opened a.2 in
     let c = bind_ok (view_of FlagVal (opened_list flag_val_type files.flag_val)) (o_values files a.0 b.0) opened b.2 in
     let d = bind_ok (view_of FlagInfo (opened_list flag_info_type files.flag_info)) (o_all a.0 b.0 c.0) opened c.2 in
     let made : Opened = record { package_map = a.0; flag_map = b.0; values = c.0; infos = d.0 } in
-    let is : made ≡ opened = ok_is made opened d.2 in
-    ap files_in (sym is) ∙ same_files a.0.file b.0.file c.0.file d.0.file files.package_map files.flag_map files.flag_val files.flag_info
-    (opened_map-offsets _ _ _ (view_ok PackageMap _ a.0 a.1)).file (opened_map-offsets _ _ _ (view_ok FlagMap _ b.0 b.1)).file
-    (opened_list-offsets _ _ _ (view_ok FlagVal _ c.0 c.1)).file (opened_list-offsets _ _ _ (view_ok FlagInfo _ d.0 d.1)).file
+    subst (AreOpened files) (ok_is made opened d.2) (record {
+      package_map = view_ok PackageMap _ a.0 a.1;
+      flag_map = view_ok FlagMap _ b.0 b.1;
+      values = view_ok FlagVal _ c.0 c.1;
+      infos = view_ok FlagInfo _ d.0 d.1;
+    })
+
+opened_files-same : (files : Files) (opened : Opened) → opened_files files ≡ Ok opened → files_in opened ≡ files
+opened_files-same files opened e =
+    let are = are_opened files opened e in
+    same_files opened.package_map.file opened.flag_map.file opened.values.file opened.infos.file files.package_map files.flag_map files.flag_val files.flag_info
+    (opened_map-offsets _ _ _ are.package_map).file (opened_map-offsets _ _ _ are.flag_map).file
+    (opened_list-offsets _ _ _ are.values).file (opened_list-offsets _ _ _ are.infos).file
 
 pub opened_same : (files : Files) (opened : Opened) → opened_set files ≡ Ok opened → files_in opened ≡ files
 unfolding opened_set

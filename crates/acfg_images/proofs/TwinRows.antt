@@ -1,15 +1,14 @@
 -- The least twin among rows in order is the first node whose key an earlier node has.
-use Rattle.std.proofs.Common.{◌≡◌, ◌≢◌, ℕ, zero, suc, ◌+◌, ◌-◌, ◌<◌, ◌≤◌, Bool, true, false, cond, eqb, ◌||◌, ◌&&◌, List, [], ◌∷◌, ◌++◌, length, get_or, take, drop, map, Option, Some, None, Bor, Ordering, refl, sym, ap, subst, ◌∙◌, ◌⊎◌, inl, inr, arith, add-one}
-use Rattle.std.specs.Prelude.{IsPermutation, count_by, Contains, min, unwrap_or}
+use Rattle.std.proofs.Common.{◌≡◌, ◌≢◌, ℕ, zero, suc, ◌+◌, ◌-◌, ◌<◌, ◌≤◌, Bool, true, false, cond, eqb, ◌||◌, List, [], ◌∷◌, ◌++◌, length, get_or, take, drop, map, Option, Some, None, Ordering, refl, sym, ap, subst, ◌∙◌, ◌⊎◌, inl, inr, arith}
+use Rattle.std.specs.Prelude.{IsPermutation, min, unwrap_or}
 use Rattle.std.specs.List.{list_any}
 use Rattle.std.specs.List.Sorted.{IsSorted}
-use Rattle.std.specs.Str.{bytes_eq}
 use Rattle.std.specs.Ordering.{is_eq, is_lt, nat_cmp, ordering_then, ordering_reverse}
-use Rattle.std.specs.Option.{option_cmp, option_map}
+use Rattle.std.specs.Option.{option_map}
 use Rattle.std.specs.declared.cmp.Ordering.TheVariants.{Less, Equal, Greater}
 use Rattle.std.specs.Cmp.{IsTotalOrder, nat_cmp_total, on_total, then_total}
-use Rattle.std.specs.Cmp.Lexicographic.{slice_cmp, nat_list_cmp_total, options_total}
-use Rattle.std.proofs.lemmas.Bool.{cases_eq, cases_lt, cases_Bool, or_cases, or_left, or_right, both_ways, eq-eqb, eqb-true, false_from_ne_true}
+use Rattle.std.specs.Cmp.Lexicographic.{nat_list_cmp_total, options_total}
+use Rattle.std.proofs.lemmas.Bool.{cases_eq, cases_lt, or_cases, or_left, or_right, both_ways, eq-eqb, eqb-true}
 use Rattle.std.proofs.lemmas.Bool.Decides.{nat_tests}
 use Rattle.std.proofs.lemmas.List.{append-nil, drop_all, take_all, get_or_default, length-append, length-map, get_or-map}
 use Rattle.std.proofs.lemmas.List.Elements.{Contains-get_or}
@@ -17,17 +16,17 @@ use Rattle.std.proofs.lemmas.List.Folds.{list_any-append}
 use Rattle.std.proofs.lemmas.List.MinMax.{ranks_by}
 use Rattle.std.proofs.lemmas.List.Sorted.{sorted_far, length_permutation, Contains-permutation, IsPermutation-sym, sum_by-IsPermutation}
 use Rattle.acfg_images.specs.declared.links.NodeLink.{NodeLink}
-use Rattle.acfg_images.specs.Code.{HaveBuckets, KnowBuckets, link_of, links_of}
+use Rattle.acfg_images.specs.Code.{HaveBuckets, link_of, links_of}
 use Rattle.acfg_images.specs.Faults.{twice, twice_behind}
 use Rattle.acfg_views.specs.Fields.{number, string}
 use Rattle.acfg_views.specs.Layout.{Package, Flag, kind_number, package_node, flag_node}
 use Rattle.acfg_views.proofs.Exact.{length-number}
 use Rattle.acfg_views.proofs.FileFacts.{length-string}
-use Rattle.acfg_images.specs.Links.{NodeKey, Link, bucket_of, same_key, links_from, package_key, flag_node_key, package_links, flag_links}
+use Rattle.acfg_images.specs.Links.{NodeKey, Link, same_key, links_from, package_key, flag_node_key, package_links, flag_links}
 use Rattle.acfg_images.specs.Twins.{Row, row_of, row_cmp, row_key, have_one_key, Rise, HasTwin, IsLeast}
-use Rattle.acfg_images.proofs.Keys.{Kept, kept_cmp, key_in, InBucket, kept_eq, same_key-is, same_key-sym, no_link}
+use Rattle.acfg_images.proofs.Keys.{Kept, kept_cmp, InBucket, kept_eq, same_key-is, same_key-sym, no_link}
 use Rattle.acfg_images.proofs.KeysAre.{same_key-refl}
-use Rattle.acfg_images.proofs.Pigeon.{count_by-cons, two_of, counted_twice}
+use Rattle.acfg_images.proofs.Pigeon.{two_of, counted_twice}
 
 -- ---- the least of a kind is one
 

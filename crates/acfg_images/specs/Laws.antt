@@ -7,7 +7,7 @@ use Rattle.acfg_images.specs.declared.fault.ImageFault.{ImageFault}
 use Rattle.acfg_images.specs.declared.fault.ImageFault.TheVariants.{OutOfMemory}
 use Rattle.acfg_images.specs.Files.{Files}
 use Rattle.acfg_images.specs.Set.{Notes, IsSet, release_in, notes_in}
-use Rattle.acfg_images.specs.Faults.{Opened, checked, parts_in, files_in}
+use Rattle.acfg_images.specs.Faults.{Opened, checked, parts_in}
 
 -- the four files are bytes
 pub record AreBytes (files : Files) : Type 0 where

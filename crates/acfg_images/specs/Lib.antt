@@ -9,6 +9,8 @@ pub mod Faults
 pub mod Code
 pub mod Views
 pub mod Laws
+pub mod ImageLaw
 pub mod Restamp
 pub mod Listing
 pub mod Twins
+pub mod Room

@@ -1,6 +1,6 @@
 //! What the four files have to agree on, by tables of marks and counts.
 
-ghost use Rattle.std.specs.Prelude.{◌≡◌, ◌==◌, ◌<◌, ◌^◌, ◌+◌, ℕ, IfOk, IfSome, EachIndex, length, slice_index};
+ghost use Rattle.std.specs.Prelude.{◌≡◌, [], ◌==◌, ◌<◌, ◌^◌, ◌+◌, ℕ, IfOk, IfSome, EachIndex, length, slice_index};
 ghost use Rattle.std.specs.Prelude.{slice_index_or, slice_set, true, map as mapped, not, count_by, false};
 ghost use Rattle.std.specs.List.{list_any, list_all};
 ghost use Rattle.acfg_views.specs.Reading.{package_of, flag_of};
@@ -11,7 +11,7 @@ ghost use Rattle.acfg_images.specs.Set.{start_of, has_read_write};
 
 use acfg_base::Kind;
 use acfg_views::{FlagNode, Infos, PackageNode};
-use std::alloc::{AllocError, Global};
+use std::alloc::AllocError;
 
 /// The first place without a mark.
 pub(crate) fn first_unmarked(marks: &[bool]) -> Option<u32>
@@ -116,13 +116,13 @@ pub(crate) fn first_not_once(counts: &[u32]) -> Option<u32>
 
 /// The global index of each flag: its package's start and its index there.
 pub(crate) fn global_indexes(
-    alloc: Global,
+    mut indexes: Vec<u64>,
     starts: &[u32],
     flags: &[FlagNode<'_>],
 ) -> Result<Vec<u64>, AllocError>
+    requires { indexes.items ≡ [] }
     ensures { IfOk result (λ indexes. indexes.items ≡ mapped (table_index starts.now) (mapped flag_of flags.now)) }
 {
-    let mut indexes = Vec::with_capacity(alloc, flags.len())?;
     for flag in flags {
         indexes.push(global_index(starts, *flag))?;
     }

@@ -1,29 +1,31 @@
 //! Buckets and links of a map.
 
 ghost use Rattle.std.specs.Prelude.{◌≡◌, ◌^◌, ◌<◌, ◌+◌, ◌*◌, IfOk, EachIndex, length, slice_index, slice_set, ◌==◌};
-ghost use Rattle.std.specs.Prelude.{not, IfSome};
+ghost use Rattle.std.specs.Prelude.{not, IfSome, []};
 ghost use Rattle.acfg_images.specs.Words.{least};
 ghost use Rattle.acfg_images.specs.Links.{first_in};
 ghost use Rattle.acfg_images.specs.Faults.{wrong_chain, wrong_next as next_fault};
 ghost use Rattle.acfg_images.specs.Code.{HaveBuckets, links_of};
 
 use crate::links::NodeLink;
-use std::alloc::{AllocError, Global};
+use crate::room::zeros;
+use std::alloc::AllocError;
 
 /// The first bucket, at its own place, that doesn't hold where its first node stands, or else where the first node
 /// stands whose next isn't that of the next node of its bucket.
 pub(crate) fn first_wrong(
-    alloc: Global,
+    firsts: Vec<u32>,
     first_bucket: u32,
     buckets: &[u32],
     links: &[NodeLink<'_>],
 ) -> Result<Option<u32>, AllocError>
+    requires firsts { firsts.items ≡ [] }
     requires buckets { HaveBuckets (length buckets.now) links.now }
     requires some { 0 < length buckets.now }
     requires room { first_bucket + 4 * length buckets.now < 2 ^ 32 }
     ensures { IfOk result (λ at. at ≡ wrong_chain first_bucket buckets.now (links_of links.now)) }
 {
-    let mut firsts = vec![in alloc; 0u32; buckets.len()]?;
+    let mut firsts = zeros(firsts, buckets.len())?;
     Ok(wrong_in(&mut firsts, first_bucket, buckets, links))
 }
 

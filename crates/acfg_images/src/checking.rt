@@ -4,6 +4,7 @@ ghost use Rattle.std.specs.Prelude.{◌≡◌, Ok};
 ghost use Rattle.acfg_images.specs.Faults.{checked, opened_set, too_large};
 ghost use Rattle.acfg_images.specs.Laws.{TellsSets};
 ghost use Rattle.acfg_images.specs.Code.{Tells};
+ghost use Rattle.acfg_images.specs.Room.{IsUnused};
 ghost use Rattle.acfg_images.specs.Views.{Answers, opened_of};
 
 use crate::checked::Checked;
@@ -11,6 +12,7 @@ use crate::disagree::find_behind_maps;
 use crate::fault::ImageFault;
 use crate::maps::{check_flags, check_packages};
 use crate::purpose::Use;
+use crate::room::{Room, take_room};
 use crate::set::ImageSet;
 use crate::views::{Views, open_views};
 use acfg_views::Steps;
@@ -52,8 +54,9 @@ fn check_counted<L: Ledger>(
     ensures { Tells (λ it. it) result (checked purpose set.now) }
 {
     let views = open_set(set)?;
+    let room = take_room(alloc, set, &views)?;
     let mut steps = Steps::<L>::new(blank);
-    check_views(alloc, set, views, purpose, &mut steps)
+    check_views(room, set, views, purpose, &mut steps)
 }
 
 // Opens files that aren't too large together.
@@ -69,20 +72,28 @@ fn open_set(set: &ImageSet) -> Result<Views<'_>, ImageFault>
 
 // Checks what stands behind the headers.
 fn check_views<'a, L: Ledger>(
-    alloc: Global,
+    room: Room<'a>,
     set: &'a ImageSet,
     views: Views<'a>,
     purpose: Use,
     steps: &mut Steps<L>,
 ) -> Result<Checked<'a>, ImageFault>
-    requires { opened_set set.now ≡ Ok (opened_of views) }
+    requires room { IsUnused room }
+    requires opened { opened_set set.now ≡ Ok (opened_of views) }
     ensures { Tells (λ it. it) result (checked purpose set.now) }
 {
+    let Room {
+        packages,
+        package_tables,
+        flags,
+        flag_tables,
+        numbers,
+    } = room;
     let size = set.package_map().len() as u32;
-    let packages = check_packages(alloc, &views.package_map, size, steps)?;
+    let packages = check_packages(packages, package_tables, &views.package_map, size, steps)?;
     let size = set.flag_map().len() as u32;
-    let flags = check_flags(alloc, &views.flag_map, size, steps)?;
-    match find_behind_maps(alloc, &views, purpose, &packages.nodes, &flags.nodes)? {
+    let flags = check_flags(flags, flag_tables, &views.flag_map, size, steps)?;
+    match find_behind_maps(numbers, &views, purpose, &packages.nodes, &flags.nodes)? {
         Some(fault) => Err(fault),
         None => Ok(Checked::new(set, views)),
     }

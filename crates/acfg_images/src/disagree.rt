@@ -1,11 +1,12 @@
 //! Faults among files that are each lawful.
 
 ghost use Rattle.std.specs.Prelude.{◌≡◌, ◌<◌, ◌^◌, IfOk, EachIndex, length, slice_index, slice_index_or, true, false};
-ghost use Rattle.std.specs.Prelude.{None, map as mapped};
+ghost use Rattle.std.specs.Prelude.{None, map as mapped, []};
 ghost use Rattle.acfg_views.specs.Reading.{package_of, flag_of};
 ghost use Rattle.acfg_images.specs.Faults.{or_else, bits_fault, container_fault, id_fault, count_fault};
 ghost use Rattle.acfg_images.specs.Faults.{package_fault, index_fault, stray_id, indexed_fault, disagreement};
 ghost use Rattle.acfg_images.specs.Code.{HasStarts, kind_fault_by};
+ghost use Rattle.acfg_images.specs.Room.{AreUnusedIndexes, AreUnusedNumbers};
 ghost use Rattle.acfg_images.specs.Views.{opened_of};
 
 use crate::agree::{
@@ -15,9 +16,10 @@ use crate::agree::{
 use crate::bits::{first_bad_info, first_bad_value};
 use crate::fault::{FileType, ImageFault, Point2};
 use crate::purpose::Use;
+use crate::room::{IndexTables, NumberTables, marks, zeros};
 use crate::views::Views;
 use acfg_views::{FlagNode, Infos, PackageNode};
-use std::alloc::{AllocError, Global};
+use std::alloc::AllocError;
 
 /// The first byte of `flag.val`, or else of `flag.info`, that isn't lawful.
 pub(crate) fn find_bits(views: &Views<'_>, purpose: Use) -> Option<ImageFault>
@@ -51,14 +53,15 @@ pub(crate) fn find_container(views: &Views<'_>) -> Option<ImageFault>
 
 /// The least number below the number of packages that isn't an id.
 pub(crate) fn find_id(
-    alloc: Global,
+    ids: Vec<bool>,
     packages: &[PackageNode<'_>],
 ) -> Result<Option<ImageFault>, AllocError>
-    requires { length packages.now < 2 ^ 32 }
+    requires ids { ids.items ≡ [] }
+    requires few { length packages.now < 2 ^ 32 }
     ensures { IfOk result (λ fault. fault ≡ id_fault (mapped package_of packages.now)) }
 {
-    let mut marks = vec![in alloc; false; packages.len()]?;
-    Ok(unmarked_id(&mut marks, packages))
+    let mut ids = marks(ids, packages.len(), false)?;
+    Ok(unmarked_id(&mut ids, packages))
 }
 
 fn unmarked_id(marks: &mut [bool], packages: &[PackageNode<'_>]) -> Option<ImageFault>
@@ -100,23 +103,28 @@ pub(crate) fn find_package(count: u32, flags: &[FlagNode<'_>]) -> Option<ImageFa
 
 /// Where each package's flags start, by id.
 pub(crate) fn starts_by_id(
-    alloc: Global,
+    starts: Vec<u32>,
     packages: &[PackageNode<'_>],
 ) -> Result<Vec<u32>, AllocError>
+    requires { starts.items ≡ [] }
     ensures size { IfOk result (λ starts. length starts.items ≡ length packages.now) }
     ensures starts { IfOk result (λ starts. HasStarts starts.items (mapped package_of packages.now)) }
 {
-    let mut starts = vec![in alloc; 0u32; packages.len()]?;
+    let mut starts = zeros(starts, packages.len())?;
     put_starts(&mut starts, packages);
     Ok(starts)
 }
 
 /// The least number below the number of flags that isn't the global index of one flag alone.
-pub(crate) fn find_index(alloc: Global, indexes: &[u64]) -> Result<Option<ImageFault>, AllocError>
-    requires { length indexes.now < 2 ^ 32 }
+pub(crate) fn find_index(
+    counts: Vec<u32>,
+    indexes: &[u64],
+) -> Result<Option<ImageFault>, AllocError>
+    requires counts { counts.items ≡ [] }
+    requires few { length indexes.now < 2 ^ 32 }
     ensures { IfOk result (λ fault. fault ≡ index_fault indexes.now) }
 {
-    let mut counts = vec![in alloc; 0u32; indexes.len()]?;
+    let mut counts = zeros(counts, indexes.len())?;
     Ok(index_counted(&mut counts, indexes))
 }
 
@@ -135,15 +143,16 @@ fn index_counted(counts: &mut [u32], indexes: &[u64]) -> Option<ImageFault>
 
 /// The least global index at which the read-write bit isn't the flag's type.
 pub(crate) fn find_kind(
-    alloc: Global,
+    kinds: Vec<bool>,
     infos: &Infos<'_>,
     starts: &[u32],
     flags: &[FlagNode<'_>],
 ) -> Result<Option<ImageFault>, AllocError>
+    requires { kinds.items ≡ [] }
     ensures { IfOk result (λ fault. fault ≡ kind_fault_by starts.now (mapped flag_of flags.now) infos.now) }
 {
-    let mut marks = vec![in alloc; true; infos.count() as usize]?;
-    Ok(kind_unmarked(&mut marks, infos, starts, flags))
+    let mut kinds = marks(kinds, infos.count() as usize, true)?;
+    Ok(kind_unmarked(&mut kinds, infos, starts, flags))
 }
 
 fn kind_unmarked(
@@ -166,42 +175,51 @@ fn kind_unmarked(
 
 /// The first fault of global indexes, or else of the flags' types.
 pub(crate) fn find_by_index(
-    alloc: Global,
+    tables: IndexTables,
     infos: &Infos<'_>,
     packages: &[PackageNode<'_>],
     flags: &[FlagNode<'_>],
 ) -> Result<Option<ImageFault>, AllocError>
+    requires tables { AreUnusedIndexes tables }
     requires known { stray_id (length packages.now) (mapped flag_of flags.now) ≡ None }
     requires count { infos.now.count ≡ length flags.now }
     requires few { length flags.now < 2 ^ 32 }
     ensures { IfOk result (λ fault. fault ≡ indexed_fault (mapped package_of packages.now)
         (mapped flag_of flags.now) infos.now) }
 {
-    let starts = starts_by_id(alloc, packages)?;
-    let indexes = global_indexes(alloc, &starts, flags)?;
-    match find_index(alloc, &indexes)? {
+    let IndexTables {
+        starts,
+        indexes,
+        counts,
+        kinds,
+    } = tables;
+    let starts = starts_by_id(starts, packages)?;
+    let indexes = global_indexes(indexes, &starts, flags)?;
+    match find_index(counts, &indexes)? {
         Some(fault) => Ok(Some(fault)),
-        None => find_kind(alloc, infos, &starts, flags),
+        None => find_kind(kinds, infos, &starts, flags),
     }
 }
 
 /// The first fault among files that are each lawful.
 pub(crate) fn find_disagreement(
-    alloc: Global,
+    tables: NumberTables,
     views: &Views<'_>,
     packages: &[PackageNode<'_>],
     flags: &[FlagNode<'_>],
 ) -> Result<Option<ImageFault>, AllocError>
+    requires tables { AreUnusedNumbers tables }
     requires packages { length packages.now < 2 ^ 32 }
     requires flags { length flags.now ≡ views.now.flag_map.count }
     requires few { length flags.now < 2 ^ 32 }
     ensures { IfOk result (λ fault. fault ≡ disagreement (opened_of views.now) (mapped package_of packages.now)
         (mapped flag_of flags.now)) }
 {
+    let NumberTables { ids, by_index } = tables;
     if let Some(fault) = find_container(views) {
         return Ok(Some(fault));
     }
-    if let Some(fault) = find_id(alloc, packages)? {
+    if let Some(fault) = find_id(ids, packages)? {
         return Ok(Some(fault));
     }
     if let Some(fault) = find_count(views) {
@@ -210,17 +228,18 @@ pub(crate) fn find_disagreement(
     if let Some(fault) = find_package(packages.len() as u32, flags) {
         return Ok(Some(fault));
     }
-    find_by_index(alloc, &views.infos, packages, flags)
+    find_by_index(by_index, &views.infos, packages, flags)
 }
 
 /// The first fault behind the maps: bits, and then what has to agree.
 pub(crate) fn find_behind_maps(
-    alloc: Global,
+    tables: NumberTables,
     views: &Views<'_>,
     purpose: Use,
     packages: &[PackageNode<'_>],
     flags: &[FlagNode<'_>],
 ) -> Result<Option<ImageFault>, AllocError>
+    requires tables { AreUnusedNumbers tables }
     requires packages { length packages.now < 2 ^ 32 }
     requires flags { length flags.now ≡ views.now.flag_map.count }
     requires few { length flags.now < 2 ^ 32 }
@@ -229,6 +248,6 @@ pub(crate) fn find_behind_maps(
 {
     match find_bits(views, purpose) {
         Some(fault) => Ok(Some(fault)),
-        None => find_disagreement(alloc, views, packages, flags),
+        None => find_disagreement(tables, views, packages, flags),
     }
 }

@@ -6,6 +6,7 @@ ghost use Rattle.acfg_images.specs.declared.fault.FileType.TheVariants.{PackageM
 ghost use Rattle.acfg_images.specs.Faults.{nodes_in, nodes_of};
 ghost use Rattle.acfg_images.specs.Links.{package_links, flag_links};
 ghost use Rattle.acfg_images.specs.Code.{Tells, HaveBuckets, links_of};
+ghost use Rattle.acfg_images.specs.Room.{AreUnusedPackages, AreUnusedFlags};
 
 use crate::fault::{FileType, ImageFault};
 use crate::links::NodeLink;
@@ -21,6 +22,18 @@ pub(crate) struct Packages<'a> {
     pub(crate) links: Vec<NodeLink<'a>>,
 }
 
+impl<'a> Packages<'a> {
+    /// No packages yet.
+    pub(crate) fn new(alloc: Global) -> Packages<'a>
+        ensures { AreUnusedPackages result }
+    {
+        Packages {
+            nodes: Vec::new(alloc),
+            links: Vec::new(alloc),
+        }
+    }
+}
+
 /// The flags of a set, in file order, each with its link.
 #[derive(Debug, Drop)]
 pub(crate) struct Flags<'a> {
@@ -28,14 +41,27 @@ pub(crate) struct Flags<'a> {
     pub(crate) links: Vec<NodeLink<'a>>,
 }
 
+impl<'a> Flags<'a> {
+    /// No flags yet.
+    pub(crate) fn new(alloc: Global) -> Flags<'a>
+        ensures { AreUnusedFlags result }
+    {
+        Flags {
+            nodes: Vec::new(alloc),
+            links: Vec::new(alloc),
+        }
+    }
+}
+
 /// Reads the nodes of `package.map`, up to the first place where one is refused or bytes stand behind the last one.
 pub(crate) fn read_packages<'a, L: Ledger>(
-    alloc: Global,
+    room: Packages<'a>,
     map: &PackageMap<'a>,
     size: u32,
     steps: &mut Steps<L>,
 ) -> Result<Packages<'a>, ImageFault>
-    requires { size ≡ length map.now.file }
+    requires room { AreUnusedPackages room }
+    requires size { size ≡ length map.now.file }
     ensures nodes { Tells (λ read. mapped package_of read.nodes.items) result (nodes_of package_map size
         (nodes_in package_at map.now)) }
     ensures links { IfOk result (λ read. links_of read.links.items ≡ package_links map.now.first_node
@@ -46,8 +72,10 @@ pub(crate) fn read_packages<'a, L: Ledger>(
 {
     let count = map.count();
     let buckets = map.buckets();
-    let mut nodes = Vec::new(alloc);
-    let mut links = Vec::new(alloc);
+    let Packages {
+        mut nodes,
+        mut links,
+    } = room;
     let mut at = map.first_node();
     for _ in 0..count {
         match map.node_at(at, steps) {
@@ -73,12 +101,13 @@ pub(crate) fn read_packages<'a, L: Ledger>(
 
 /// Reads the nodes of `flag.map`, up to the first place where one is refused or bytes stand behind the last one.
 pub(crate) fn read_flags<'a, L: Ledger>(
-    alloc: Global,
+    room: Flags<'a>,
     map: &FlagMap<'a>,
     size: u32,
     steps: &mut Steps<L>,
 ) -> Result<Flags<'a>, ImageFault>
-    requires { size ≡ length map.now.file }
+    requires room { AreUnusedFlags room }
+    requires size { size ≡ length map.now.file }
     ensures nodes { Tells (λ read. mapped flag_of read.nodes.items) result (nodes_of flag_map size
         (nodes_in flag_at map.now)) }
     ensures links { IfOk result (λ read. links_of read.links.items ≡ flag_links map.now.first_node
@@ -89,8 +118,10 @@ pub(crate) fn read_flags<'a, L: Ledger>(
 {
     let count = map.count();
     let buckets = map.buckets();
-    let mut nodes = Vec::new(alloc);
-    let mut links = Vec::new(alloc);
+    let Flags {
+        mut nodes,
+        mut links,
+    } = room;
     let mut at = map.first_node();
     for _ in 0..count {
         match map.node_at(at, steps) {

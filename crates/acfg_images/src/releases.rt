@@ -9,7 +9,7 @@ ghost use Rattle.acfg_images.specs.Laws.{release_of};
 ghost use Rattle.acfg_images.specs.Listing.{HasPackages, IsListable, entry_in};
 
 use crate::checked::Checked;
-use crate::nodes::{read_flags, read_packages};
+use crate::nodes::{Flags, Packages, read_flags, read_packages};
 use acfg_base::{Entry, Name, OutOfMemory, PackageName, Release};
 use acfg_views::{FlagNode, PackageNode, Steps};
 use std::alloc::{AllocError, Global};
@@ -39,12 +39,12 @@ fn read_release<L: Ledger>(
 {
     let mut steps = Steps::<L>::new(blank);
     let size = set.set().package_map().len() as u32;
-    let packages = match read_packages(alloc, set.package_view(), size, &mut steps) {
+    let packages = match read_packages(Packages::new(alloc), set.package_view(), size, &mut steps) {
         Ok(packages) => packages.nodes,
         Err(_) => return Err(OutOfMemory),
     };
     let size = set.set().flag_map().len() as u32;
-    let flags = match read_flags(alloc, set.flag_view(), size, &mut steps) {
+    let flags = match read_flags(Flags::new(alloc), set.flag_view(), size, &mut steps) {
         Ok(flags) => flags.nodes,
         Err(_) => return Err(OutOfMemory),
     };

@@ -1,5 +1,10 @@
 //! A set's files and digest, and the check of a small set whose buckets were computed by hand.
 
+ghost use Rattle.std.specs.Prelude.{◌≡◌, IfOk, All, EachIndex, length, slice_index};
+ghost use Rattle.acfg_views.specs.Reading.{byte_in};
+ghost use Rattle.acfg_images.specs.declared.purpose.Use.TheVariants.{Copy};
+ghost use Rattle.acfg_images.specs.Set.{IsInfo, has_read_write};
+
 use super::*;
 use acfg_base::Kind;
 use acfg_views::ViewFault;
@@ -308,6 +313,59 @@ fn a_copy_may_have_notes(rt: HostRuntime) -> Result<(), Fail> {
             assert_eq!(rt; set.container(), "c");
             assert_eq!(rt; set.count(), 1);
         }
+        Err(_) => assert!(rt; false),
+    }
+    Ok(())
+}
+
+// The bits of a flag with both notes where it is read-write, and else none.
+fn noted(bits: u8) -> u8
+    ensures lawful { IsInfo Copy result }
+    ensures kind { has_read_write result ≡ has_read_write bits }
+{
+    if bits / 2 % 2 == 1 { 7 } else { 0 }
+}
+
+// Such bits for each flag of a set.
+fn all_noted(alloc: Global, set: &Checked<'_>) -> Result<Vec<u8>, AllocError>
+    ensures count { IfOk result (λ made. length made.items ≡ set.now.infos.count) }
+    ensures lawful { IfOk result (λ made. All (IsInfo Copy) made.items) }
+    ensures kinds { IfOk result (λ made. EachIndex made.items (λ i. has_read_write (slice_index made.items i) ≡
+        has_read_write (byte_in set.now.infos i))) }
+{
+    let mut made = Vec::new(alloc);
+    for i in 0..set.count() {
+        made.push(noted(set.bits_at(i)))?;
+    }
+    Ok(made)
+}
+
+// So many values that are true.
+fn all_true(alloc: Global, count: u32) -> Result<Vec<u8>, AllocError>
+    ensures count { IfOk result (λ made. length made.items ≡ count) }
+    ensures values { IfOk result (λ made. EachIndex made.items (λ i. slice_index made.items i ≡ 1)) }
+{
+    vec![in alloc; 1u8; count as usize]
+}
+
+fn restamp_all(alloc: Global, set: &Checked<'_>) -> Result<ImageSet, Fail> {
+    set.are_open();
+    let infos = all_noted(alloc, set)?;
+    let values = all_true(alloc, set.count())?;
+    Ok(restamp(alloc, set, &values, &infos)?)
+}
+
+#[test]
+fn a_copy_is_restamped(rt: HostRuntime) -> Result<(), Fail> {
+    let set = two_flags(rt.alloc(), 0, 1, FileType::FlagVal, 0, 1)?;
+    let made = match check(rt.alloc(), &set, Use::Release) {
+        Ok(set) => restamp_all(rt.alloc(), &set)?,
+        Err(_) => return Err("no set".into()),
+    };
+    assert_eq!(rt; made.flag_map(), set.flag_map());
+    assert!(rt; check(rt.alloc(), &made, Use::Release).is_err());
+    match check(rt.alloc(), &made, Use::Copy) {
+        Ok(copy) => assert_eq!(rt; values_of(&copy), [(true, 7), (true, 0)]),
         Err(_) => assert!(rt; false),
     }
     Ok(())

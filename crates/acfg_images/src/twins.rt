@@ -1,6 +1,6 @@
 //! Keys that come twice.
 
-ghost use Rattle.std.specs.Prelude.{◌≡◌, ◌<◌, IfOk, IsPermutation, length, map as mapped, Some, min, unwrap_or};
+ghost use Rattle.std.specs.Prelude.{◌≡◌, [], ◌<◌, IfOk, IsPermutation, length, map as mapped, Some, min, unwrap_or};
 ghost use Rattle.std.specs.Option.{option_map};
 ghost use Rattle.std.specs.List.Sorted.{IsSorted};
 ghost use Rattle.acfg_images.specs.Faults.{twice};
@@ -8,34 +8,39 @@ ghost use Rattle.acfg_images.specs.Code.{KnowBuckets, links_of};
 ghost use Rattle.acfg_images.specs.Twins.{Rise, HasTwin, IsLeast, row_of, row_cmp, have_one_key as one_key};
 
 use crate::links::NodeLink;
-use std::alloc::{AllocError, Global};
+use std::alloc::AllocError;
 
 /// A node's bucket, by which most keys differ, its key, and where it stands.
-type Row<'a> = (u32, Option<u32>, &'a str, u32);
+pub(crate) type Row<'a> = (u32, Option<u32>, &'a str, u32);
 
 /// Where the first node stands whose key an earlier node has.
-pub(crate) fn first_twice(alloc: Global, links: &[NodeLink<'_>]) -> Result<Option<u32>, AllocError>
+pub(crate) fn first_twice<'a>(
+    rows: Vec<Row<'a>>,
+    links: &[NodeLink<'a>],
+) -> Result<Option<u32>, AllocError>
+    requires rows { rows.items ≡ [] }
     requires buckets { KnowBuckets links.now }
     requires rising { Rise (links_of links.now) }
     ensures { IfOk result (λ at. at ≡ twice (links_of links.now)) }
 {
-    let rows = sorted_rows(alloc, links)?;
+    let rows = sorted_rows(rows, links)?;
     Ok(least_twin(&rows))
 }
 
-fn sorted_rows<'a>(alloc: Global, links: &[NodeLink<'a>]) -> Result<Vec<Row<'a>>, AllocError>
+fn sorted_rows<'a>(rows: Vec<Row<'a>>, links: &[NodeLink<'a>]) -> Result<Vec<Row<'a>>, AllocError>
+    requires { rows.items ≡ [] }
     ensures permutation { IfOk result (λ rows. IsPermutation (mapped row_of links.now) rows.items) }
     ensures sorted { IfOk result (λ rows. IsSorted row_cmp rows.items) }
 {
-    let mut rows = list_rows(alloc, links)?;
+    let mut rows = list_rows(rows, links)?;
     sort_rows(&mut rows);
     Ok(rows)
 }
 
-fn list_rows<'a>(alloc: Global, links: &[NodeLink<'a>]) -> Result<Vec<Row<'a>>, AllocError>
+fn list_rows<'a>(mut rows: Vec<Row<'a>>, links: &[NodeLink<'a>]) -> Result<Vec<Row<'a>>, AllocError>
+    requires { rows.items ≡ [] }
     ensures { IfOk result (λ rows. rows.items ≡ mapped row_of links.now) }
 {
-    let mut rows = Vec::with_capacity(alloc, links.len())?;
     for link in links {
         rows.push(row(*link))?;
     }

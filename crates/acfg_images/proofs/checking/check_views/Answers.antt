@@ -11,34 +11,34 @@ use Rattle.acfg_images.proofs.checking.check_views.Goals as goal
 
 pub overflow_cast-size : goal.overflow_cast-size
 overflow_cast-size g c =
-    let small = opened_small c.args.set.now (opened_of c.args.views) c.requires in
+    let small = opened_small c.args.set.now (opened_of c.args.views) c.requires.opened in
     omega (arith, small, ap length c.package_map.ensures)
 
-pub check_packages-requires : goal.check_packages-requires
-check_packages-requires g c =
-    let same = opened_same c.args.set.now (opened_of c.args.views) c.requires in
+pub check_packages-requires-clause-size : goal.check_packages-requires-clause-size
+check_packages-requires-clause-size g c =
+    let same = opened_same c.args.set.now (opened_of c.args.views) c.requires.opened in
     ap length c.package_map.ensures ∙ ap (λ (f : Files). length f.package_map) (sym same)
 
 pub returns-in_err-packages : goal.returns-in_err-packages
 returns-in_err-packages g c =
     let p = err_from_is_err_and c.from_residual.result c.from_residual.ensures.1 in
-    let go = goes_on c.args.purpose c.args.set.now (opened_of c.args.views) c.requires in
+    let go = goes_on c.args.purpose c.args.set.now (opened_of c.args.views) c.requires.opened in
     rw (p.1, p.2) (either (λ stop. go ∙ stops_packages c.args.purpose (opened_of c.args.views) c.in_err-packages.field-0.0 stop) c.in_err-packages.ensures.nodes)
 
 pub overflow_cast-size-2 : goal.overflow_cast-size-2
 overflow_cast-size-2 g c =
-    let small = opened_small c.args.set.now (opened_of c.args.views) c.requires in
+    let small = opened_small c.args.set.now (opened_of c.args.views) c.requires.opened in
     omega (arith, small, ap length c.flag_map.ensures)
 
-pub check_flags-requires : goal.check_flags-requires
-check_flags-requires g c =
-    let same = opened_same c.args.set.now (opened_of c.args.views) c.requires in
+pub check_flags-requires-clause-size : goal.check_flags-requires-clause-size
+check_flags-requires-clause-size g c =
+    let same = opened_same c.args.set.now (opened_of c.args.views) c.requires.opened in
     ap length c.flag_map.ensures ∙ ap (λ (f : Files). length f.flag_map) (sym same)
 
 pub returns-in_err-flags : goal.returns-in_err-flags
 returns-in_err-flags g c =
     let p = err_from_is_err_and c.from_residual-in_err-flags.result c.from_residual-in_err-flags.ensures.1 in
-    let go = goes_on c.args.purpose c.args.set.now (opened_of c.args.views) c.requires in
+    let go = goes_on c.args.purpose c.args.set.now (opened_of c.args.views) c.requires.opened in
     rw (p.1, p.2) (either (λ stop. go ∙ stops_flags c.args.purpose (opened_of c.args.views) (mapped package_of c.in_ok-packages.packages.nodes.items) c.in_err-flags.field-0.0 c.in_ok-packages.ensures.nodes stop) c.in_err-flags.ensures.nodes)
 
 pub find_behind_maps-requires-clause-packages : goal.find_behind_maps-requires-clause-packages
@@ -56,7 +56,7 @@ returns-in-Some g c =
     let packages = mapped package_of c.in_ok-packages.packages.nodes.items in
     let flags = mapped flag_of c.in_ok-flags.flags.nodes.items in
     let is = behind_same c.args.purpose opened _ _ _ _ c.deref.ensures.value c.deref-2.ensures.value c.in_ok-fault.ensures in
-    inr (goes_on c.args.purpose c.args.set.now (opened_of c.args.views) c.requires ∙ all_ends c.args.purpose opened packages flags c.in_ok-fault.field-0 c.in_ok-packages.ensures.nodes c.in_ok-flags.ensures.nodes is ∙ ap (λ (o : Option ImageFault). unless o (Ok opened)) c.in-Some.is)
+    inr (goes_on c.args.purpose c.args.set.now (opened_of c.args.views) c.requires.opened ∙ all_ends c.args.purpose opened packages flags c.in_ok-fault.field-0 c.in_ok-packages.ensures.nodes c.in_ok-flags.ensures.nodes is ∙ ap (λ (o : Option ImageFault). unless o (Ok opened)) c.in-Some.is)
 
 pub new-requires-clause-faultless : goal.new-requires-clause-faultless
 new-requires-clause-faultless g c =
@@ -64,11 +64,11 @@ new-requires-clause-faultless g c =
     let packages = mapped package_of c.in_ok-packages.packages.nodes.items in
     let flags = mapped flag_of c.in_ok-flags.flags.nodes.items in
     let is = behind_same c.args.purpose opened _ _ _ _ c.deref.ensures.value c.deref-2.ensures.value c.in_ok-fault.ensures in
-    let same = opened_same c.args.set.now opened c.requires in
-    (c.args.purpose, ap (checked c.args.purpose) same ∙ goes_on c.args.purpose c.args.set.now (opened_of c.args.views) c.requires ∙ all_ends c.args.purpose opened packages flags c.in_ok-fault.field-0 c.in_ok-packages.ensures.nodes c.in_ok-flags.ensures.nodes is ∙ ap (λ (o : Option ImageFault). unless o (Ok opened)) c.in-None.is)
+    let same = opened_same c.args.set.now opened c.requires.opened in
+    (c.args.purpose, ap (checked c.args.purpose) same ∙ goes_on c.args.purpose c.args.set.now (opened_of c.args.views) c.requires.opened ∙ all_ends c.args.purpose opened packages flags c.in_ok-fault.field-0 c.in_ok-packages.ensures.nodes c.in_ok-flags.ensures.nodes is ∙ ap (λ (o : Option ImageFault). unless o (Ok opened)) c.in-None.is)
 
 pub new-requires-clause-files : goal.new-requires-clause-files
-new-requires-clause-files g c = sym (opened_same c.args.set.now (opened_of c.args.views) c.requires)
+new-requires-clause-files g c = sym (opened_same c.args.set.now (opened_of c.args.views) c.requires.opened)
 
 pub returns : goal.returns
 returns g c =
@@ -76,4 +76,4 @@ returns g c =
     let packages = mapped package_of c.in_ok-packages.packages.nodes.items in
     let flags = mapped flag_of c.in_ok-flags.flags.nodes.items in
     let is = behind_same c.args.purpose opened _ _ _ _ c.deref.ensures.value c.deref-2.ensures.value c.in_ok-fault.ensures in
-    goes_on c.args.purpose c.args.set.now (opened_of c.args.views) c.requires ∙ all_ends c.args.purpose opened packages flags c.in_ok-fault.field-0 c.in_ok-packages.ensures.nodes c.in_ok-flags.ensures.nodes is ∙ ap (λ (o : Option ImageFault). unless o (Ok opened)) c.in-None.is ∙ ap (λ (o : Opened). Ok o) (sym c.new.ensures)
+    goes_on c.args.purpose c.args.set.now (opened_of c.args.views) c.requires.opened ∙ all_ends c.args.purpose opened packages flags c.in_ok-fault.field-0 c.in_ok-packages.ensures.nodes c.in_ok-flags.ensures.nodes is ∙ ap (λ (o : Option ImageFault). unless o (Ok opened)) c.in-None.is ∙ ap (λ (o : Opened). Ok o) (sym c.new.ensures)

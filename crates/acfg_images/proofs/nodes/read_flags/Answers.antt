@@ -17,11 +17,11 @@ use Rattle.acfg_images.proofs.nodes.read_flags.Goals as goal
 pub loop-init : goal.loop-init
 loop-init g c =
     let none = so_far_none flag_at flag_node flag_node_key (λ n. n.next) c.args.map.now (nodes_within flag_map_type c.args.map.now c.first_node-at.ensures.open) in
-    rw (c.new-nodes.ensures.items, c.new-links.ensures.items, c.first_node-at.ensures.place) (none, λ k d lt. absurd (omega arith))
+    rw (c.requires.room.nodes, c.requires.room.links, c.first_node-at.ensures.place) (none, λ k d lt. absurd (omega arith))
 
 pub returns-in-Err-clause-nodes : goal.returns-in-Err-clause-nodes
 returns-in-Err-clause-nodes g c =
-    inr (walk_refused flag_at flag_node flag_node_key (λ n. n.next) c.args.map.now the_file c.args.size c.loop.counter _ _ c.loop.at c.in-Err.field-0 c.requires (omega (arith, c.loop-test.true, c.count-count.ensures)) c.loop.invariant.0 c.in-Err.ensures.node)
+    inr (walk_refused flag_at flag_node flag_node_key (λ n. n.next) c.args.map.now the_file c.args.size c.loop.counter _ _ c.loop.at c.in-Err.field-0 c.requires.size (omega (arith, c.loop-test.true, c.count-count.ensures)) c.loop.invariant.0 c.in-Err.ensures.node)
 
 pub loop-preserved : goal.loop-preserved
 loop-preserved g c =
@@ -39,26 +39,26 @@ loop-preserved g c =
 
 pub returns-then-at-size-clause-nodes : goal.returns-then-at-size-clause-nodes
 returns-then-at-size-clause-nodes g c =
-    inr (walk_trailing flag_at flag_node flag_node_key (λ n. n.next) c.args.map.now the_file c.args.size c.loop.counter _ _ c.loop.at c.requires (omega (arith, c.loop-test.false, c.count-count.ensures)) c.if-at-size.true c.loop.invariant.0)
+    inr (walk_trailing flag_at flag_node flag_node_key (λ n. n.next) c.args.map.now the_file c.args.size c.loop.counter _ _ c.loop.at c.requires.size (omega (arith, c.loop-test.false, c.count-count.ensures)) c.if-at-size.true c.loop.invariant.0)
 
 pub returns-clause-nodes : goal.returns-clause-nodes
 returns-clause-nodes g c =
-    ap (nodes_of the_file c.args.size) (walk_done flag_at flag_node flag_node_key (λ n. n.next) c.args.map.now c.args.size c.loop.counter _ _ c.loop.at c.requires (omega (arith, c.loop-test.false, c.count-count.ensures)) c.if-at-size.false c.loop.invariant.0).0
+    ap (nodes_of the_file c.args.size) (walk_done flag_at flag_node flag_node_key (λ n. n.next) c.args.map.now c.args.size c.loop.counter _ _ c.loop.at c.requires.size (omega (arith, c.loop-test.false, c.count-count.ensures)) c.if-at-size.false c.loop.invariant.0).0
 
 pub returns-clause-links : goal.returns-clause-links
 returns-clause-links g c =
-    (walk_done flag_at flag_node flag_node_key (λ n. n.next) c.args.map.now c.args.size c.loop.counter _ _ c.loop.at c.requires (omega (arith, c.loop-test.false, c.count-count.ensures)) c.if-at-size.false c.loop.invariant.0).1
+    (walk_done flag_at flag_node flag_node_key (λ n. n.next) c.args.map.now c.args.size c.loop.counter _ _ c.loop.at c.requires.size (omega (arith, c.loop-test.false, c.count-count.ensures)) c.if-at-size.false c.loop.invariant.0).1
 
 pub returns-clause-buckets : goal.returns-clause-buckets
 returns-clause-buckets g c = rw (← c.buckets-buckets.ensures.count) c.loop.invariant.1
 
 pub returns-clause-count : goal.returns-clause-count
 returns-clause-count g c =
-    let done = (walk_done flag_at flag_node flag_node_key (λ n. n.next) c.args.map.now c.args.size c.loop.counter _ _ c.loop.at c.requires (omega (arith, c.loop-test.false, c.count-count.ensures)) c.if-at-size.false c.loop.invariant.0).0 in
+    let done = (walk_done flag_at flag_node flag_node_key (λ n. n.next) c.args.map.now c.args.size c.loop.counter _ _ c.loop.at c.requires.size (omega (arith, c.loop-test.false, c.count-count.ensures)) c.if-at-size.false c.loop.invariant.0).0 in
     sym (length-map c.loop.nodes.items flag_of) ∙ length-nodes_in flag_at c.args.map.now _ done
 
 pub returns-clause-few : goal.returns-clause-few
 returns-clause-few g c =
-    let done = (walk_done flag_at flag_node flag_node_key (λ n. n.next) c.args.map.now c.args.size c.loop.counter _ _ c.loop.at c.requires (omega (arith, c.loop-test.false, c.count-count.ensures)) c.if-at-size.false c.loop.invariant.0).0 in
+    let done = (walk_done flag_at flag_node flag_node_key (λ n. n.next) c.args.map.now c.args.size c.loop.counter _ _ c.loop.at c.requires.size (omega (arith, c.loop-test.false, c.count-count.ensures)) c.if-at-size.false c.loop.invariant.0).0 in
     let count = sym (length-map c.loop.nodes.items flag_of) ∙ length-nodes_in flag_at c.args.map.now _ done in
     omega (arith, count, c.count-count.ensures, c.count-count.type_inv)

@@ -1,4 +1,4 @@
-use Rattle.std.proofs.Common.{◌≡◌, ℕ, ◌+◌, ◌<◌, ◌≤◌, ◌⊎◌, length, Option, sym, subst, ◌∙◌, inl, inr, arith}
+use Rattle.std.proofs.Common.{ℕ, ◌+◌, ◌≤◌, ◌⊎◌, length, Option, sym, subst, ◌∙◌, inl, inr, arith}
 use Rattle.acfg_images.specs.Twins.{HasTwin, IsLeast}
 use Rattle.acfg_images.proofs.TwinRows.{no_twin, twins_kept, twins_more, twins_end}
 use Rattle.acfg_images.proofs.twins.least_twin.Goals as goal
