@@ -36,7 +36,10 @@ bucket_size key_of count key nodes = count_by (λ node. bucket_of count (key_of 
 -- how many packages are in the bucket of a package's name
 abbrev pub package_bucket_size : Opened → List ℕ → ℕ
 package_bucket_size opened name =
-    bucket_size package_key (bucket_count opened.package_map) (record { owner = None; name = name }) (packages_in opened)
+    bucket_size package_key (bucket_count opened.package_map) (record {
+      owner = None;
+      name = name;
+    }) (packages_in opened)
 
 -- how many flags are in the bucket of a flag's name and its package's id
 abbrev pub flag_bucket_size : Opened → (package_id : ℕ) → List ℕ → ℕ

@@ -6,6 +6,7 @@ ghost use Rattle.std.specs.Prelude.{◌≡◌};
 use super::*;
 use acfg_base::Kind;
 use acfg_images::{Checked, ImageSet, Use, check};
+use acfg_sip::flag_bucket;
 use acfg_views::Steps;
 use std::alloc::{AllocError, Global};
 use std::marker::Brand;
@@ -66,6 +67,11 @@ const ABSENT: [(&str, &str); 8] = [
     (ONE, ""),
     ("", "enabled_rw"),
 ];
+
+/// How many flags the set of `many` has, in how many buckets.
+const MANY: u32 = 300;
+
+const BUCKETS: u32 = 97;
 
 /// A text that is too long for a name.
 const LONG: [u8; 300] = [b'a'; 300];
@@ -147,6 +153,125 @@ fn each_flag_is_found_and_no_other(rt: HostRuntime) -> Result<(), Fail> {
             },
         );
         assert_eq!(rt; seen.1, None);
+    }
+    Ok(())
+}
+
+// The name with a number: a letter and its digits.
+fn name(letter: u8, i: u32) -> [u8; 4] {
+    [
+        letter,
+        b'0' + (i / 100 % 10) as u8,
+        b'0' + (i / 10 % 10) as u8,
+        b'0' + (i % 10) as u8,
+    ]
+}
+
+fn put(out: &mut Vec<u8>, n: u32) -> Result<(), AllocError> {
+    out.extend_from_slice(&n.to_le_bytes())
+}
+
+// The header of a file of container `c`, without its last number.
+fn put_header(out: &mut Vec<u8>, file_type: u8, size: u32, count: u32) -> Result<(), AllocError> {
+    put(out, 1)?;
+    put(out, 1)?;
+    out.extend_from_slice(&[b'c', file_type])?;
+    put(out, size)?;
+    put(out, count)
+}
+
+// `flag.val` or `flag.info`, with so many bytes.
+fn many_bytes(alloc: Global, file_type: u8, byte: u8) -> Result<Vec<u8>, AllocError> {
+    let mut out = Vec::new(alloc);
+    put_header(&mut out, file_type, 22 + MANY, MANY)?;
+    put(&mut out, 22)?;
+    for _ in 0..MANY {
+        out.push(byte)?;
+    }
+    Ok(out)
+}
+
+// Where the first node of each bucket stands, and each node's next, for nodes of 20 bytes one behind another.
+fn links(alloc: Global, first: u32) -> Result<(Vec<u32>, Vec<u32>), AllocError> {
+    let mut firsts = vec![in alloc; 0u32; BUCKETS as usize]?;
+    let mut nexts = vec![in alloc; 0u32; MANY as usize]?;
+    for i in (0..MANY).rev() {
+        let bucket = flag_bucket(0, &name(b'f', i), BUCKETS) as usize;
+        if bucket < firsts.len() && (i as usize) < nexts.len() {
+            nexts[i as usize] = firsts[bucket];
+            firsts[bucket] = first.wrapping_add(i.wrapping_mul(20));
+        }
+    }
+    Ok((firsts, nexts))
+}
+
+fn many_flags(alloc: Global) -> Result<Vec<u8>, AllocError> {
+    let first = 26 + 4 * BUCKETS;
+    let (firsts, nexts) = links(alloc, first)?;
+    let mut out = Vec::new(alloc);
+    put_header(&mut out, 1, first + 20 * MANY, MANY)?;
+    put(&mut out, 26)?;
+    put(&mut out, first)?;
+    for at in firsts.iter() {
+        put(&mut out, *at)?;
+    }
+    let mut i = 0;
+    for next in nexts.iter() {
+        put(&mut out, 0)?;
+        put(&mut out, 4)?;
+        out.extend_from_slice(&name(b'f', i))?;
+        put(&mut out, i.wrapping_mul(65_536))?;
+        put(&mut out, *next)?;
+        i = i.wrapping_add(1);
+    }
+    Ok(out)
+}
+
+// One package in one bucket.
+fn many_packages(alloc: Global) -> Result<Vec<u8>, AllocError> {
+    let mut out = Vec::new(alloc);
+    put_header(&mut out, 0, 51, 1)?;
+    for n in [26, 30, 30, 5] {
+        put(&mut out, n)?;
+    }
+    out.extend_from_slice(b"com.a")?;
+    for _ in 0..3 {
+        put(&mut out, 0)?;
+    }
+    Ok(out)
+}
+
+// At which index the flag with a letter and a number is found, or none.
+fn found_at(set: &Checked<'_>, letter: u8, i: u32) -> Option<u32> {
+    let bytes = name(letter, i);
+    match std::str::from_utf8(&bytes) {
+        Ok(flag) => {
+            let package = "com.a";
+            match look_up_in(set, Asked { package, flag }).1 {
+                Some(found) => Some(found.index),
+                None => None,
+            }
+        }
+        Err(_) => Some(MANY),
+    }
+}
+
+#[test]
+fn each_of_many_flags_is_found(rt: HostRuntime) -> Result<(), Fail> {
+    let alloc = rt.alloc();
+    let set = ImageSet::new(
+        many_packages(alloc)?,
+        many_flags(alloc)?,
+        many_bytes(alloc, 2, 1)?,
+        many_bytes(alloc, 3, 2)?,
+    );
+    let Ok(set) = check(alloc, &set, Use::Release) else {
+        assert!(rt; false);
+        return Ok(());
+    };
+    for i in 0..MANY {
+        assert_eq!(rt; found_at(&set, b'f', i), Some(i));
+        assert_eq!(rt; found_at(&set, b'g', i), None, "g{i}");
     }
     Ok(())
 }
