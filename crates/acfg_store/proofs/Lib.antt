@@ -1,10 +1,15 @@
 pub mod Apart
+pub mod Changing
+pub mod Damaging
 pub mod Fronts
+pub mod Indexed
 pub mod Listed
 pub mod Lying
 pub mod Nothing
 pub mod OneSet
 pub mod OneState
+pub mod OwnKeys
+pub mod Placing
 pub mod Reading
 pub mod Rowed
 pub mod Unused

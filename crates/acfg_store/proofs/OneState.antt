@@ -38,14 +38,14 @@ use Rattle.acfg_store.proofs.Reading.{one_records, one_locals}
 some_is : {A : Type 0} (x y : A) → Some x ≡ Some y → x ≡ y
 some_is x y e = cc
 
-nothing_some : {A : Type 0} (held : Option A) (a : A) → held ≡ None → held ≡ Some a → ⊥
+pub nothing_some : {A : Type 0} (held : Option A) (a : A) → held ≡ None → held ≡ Some a → ⊥
 nothing_some held a p q = cc
 
 -- what a name has is one
-one_file : {A : Type 0} (held : Option A) (a b : A) → held ≡ Some a → held ≡ Some b → a ≡ b
+pub one_file : {A : Type 0} (held : Option A) (a b : A) → held ≡ Some a → held ≡ Some b → a ≡ b
 one_file held a b p q = some_is a b (sym p ∙ q)
 
-one_four : (files : Files) (name_of : FileType → List ℕ) (a b : four.Files) → AreFiles files name_of a → AreFiles files name_of b → a ≡ b
+pub one_four : (files : Files) (name_of : FileType → List ℕ) (a b : four.Files) → AreFiles files name_of a → AreFiles files name_of b → a ≡ b
 one_four files name_of a b p q =
     let m = one_file _ a.package_map b.package_map p.package_map q.package_map in
     let f = one_file _ a.flag_map b.flag_map p.flag_map q.flag_map in
@@ -159,7 +159,7 @@ one_set set other u v name a b m n same p q =
       notes = sym p.notes_are ∙ ap notes_in parts ∙ q.notes_are;
     }
 
-pointer_is : (s t : Slot) → pointer_bytes s ≡ pointer_bytes t → s ≡ t
+pub pointer_is : (s t : Slot) → pointer_bytes s ≡ pointer_bytes t → s ≡ t
 pointer_is Zero Zero e = refl
 pointer_is Zero One e = absurd cc
 pointer_is One Zero e = absurd cc
@@ -273,7 +273,7 @@ module _ (files : Files) (dir : List ℕ) where
   listed_one es fs (inr p) (inl q) es-are fs-are = absurd (nothing_some (files (path dir [] Records)) (records_bytes (map recorded fs)) p.1 q)
   listed_one es fs (inr p) (inr q) es-are fs-are = ap (map recorded) (p.0 ∙ sym q.0)
 
-  each_valid : (es : List Entry) → AreRecords (map recorded es) → IsValid (state_of es) → All (λ (e : Entry). IsValidContainer e.container) es
+  pub each_valid : (es : List Entry) → AreRecords (map recorded es) → IsValid (state_of es) → All (λ (e : Entry). IsValidContainer e.container) es
   each_valid es are valid k d within =
       let e = get_or es k d in
       let order : AreInOrder name_cmp entry_name es = sym (AreInOrder-same_keys name_total recorded_name entry_name (map recorded es) es (map-map recorded_name recorded es)) ∙ are.order in

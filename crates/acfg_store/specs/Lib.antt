@@ -1,6 +1,9 @@
+pub mod Commits
+pub mod Damage
 pub mod Found
 pub mod Keys
 pub mod Names
+pub mod Placed
 pub mod Records
 pub mod Stands
 pub mod Taken

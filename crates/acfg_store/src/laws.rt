@@ -4,6 +4,7 @@
 ghost use Rattle.std.specs.Prelude.{◌≡◌, ℕ, List, [], None, Contains};
 ghost use Rattle.std.specs.FinMap.{empty};
 ghost use Rattle.acfg_base.specs.Places.{AreInOrder};
+ghost use Rattle.acfg_device.specs.Left.{IsEither};
 ghost use Rattle.acfg_device.specs.Panel.{Files};
 ghost use Rattle.acfg_images.specs.declared.fault.FileType.{FileType};
 ghost use Rattle.acfg_store.specs.declared.names.Part.{Part};
@@ -11,6 +12,8 @@ ghost use Rattle.acfg_store.specs.declared.names.Part.TheVariants.{Records};
 ghost use Rattle.acfg_model.specs.State.{State, name_cmp};
 ghost use Rattle.acfg_store.specs.declared.locals.LocalOverride.{LocalOverride};
 ghost use Rattle.acfg_store.specs.declared.records.Recorded.{Recorded};
+ghost use Rattle.acfg_store.specs.Commits.{ChangesOne, IsCommit, LeavesEither};
+ghost use Rattle.acfg_store.specs.Damage.{IsDamaged};
 ghost use Rattle.acfg_store.specs.Names.{path, source_path};
 ghost use Rattle.acfg_store.specs.Records.{SpellsLocals, SpellsRecords};
 ghost use Rattle.acfg_store.specs.Stands.{Entry, IsUsed, Lies, Stands, Uses, entry_name};
@@ -49,13 +52,36 @@ pub fn one_state()
     ensures { (files : Files) (dir : List ℕ) (a b : State) → Stands files dir a → Stands files dir b → a ≡ b }
 {}
 
+/// There is one first file at fault at most, and none where the files stand for a state.
+pub fn one_damage()
+    ensures one { (files : Files) (dir a b : List ℕ) → IsDamaged files dir a → IsDamaged files dir b → a ≡ b }
+    ensures none { (files : Files) (dir : List ℕ) (state : State) (name : List ℕ) → Stands files dir state
+        → IsDamaged files dir name → ⊥ }
+{}
+
 /// A directory without a list of containers stands for the empty state.
 pub fn nothing_stands()
     ensures { (files : Files) (dir : List ℕ) → files (path dir [] Records) ≡ None → Stands files dir empty }
 {}
 
-/// A container's parts that it doesn't use have names that the directory doesn't use, and so have the parts of a container
-/// that isn't there.
+/// A cut of power within a commit leaves the old state or the new one, and no word said; files that aren't the
+/// directory's are as before. What the moves of a device say of their cuts is the premise.
+pub fn commits_leave_states()
+    ensures { (dir : List ℕ) (entries later : List Entry) (spare : List (List ℕ)) (first new : Files)
+        (spoken : List ℕ) (files : Files) (said : List ℕ) → IsCommit dir entries later (Contains spare) first new
+        → IsEither first spoken (Contains spare) new files said
+        → LeavesEither first spoken dir entries later files said }
+{}
+
+/// Containers lie in a directory with one of them changed where the list has it, the new files hold it, and the used
+/// files of all others are as they were.
+pub fn one_container_changes()
+    ensures { (dir : List ℕ) (entries later : List Entry) (entry : Entry) (first new : Files)
+        → Lies first dir entries → ChangesOne dir entries later entry first new → Lies new dir later }
+{}
+
+/// A container's parts that it doesn't use have names that the directory doesn't use, and so have the parts of a
+/// container that isn't there.
 pub fn unused_names()
     ensures spare { (dir : List ℕ) (entries : List Entry) → AreInOrder name_cmp entry_name entries → (entry : Entry)
         → Contains entries entry → (part : Part) → (part ≡ Records → ⊥) → (Uses entry part → ⊥)

@@ -5,12 +5,15 @@ mod fields;
 mod laws;
 mod locals;
 mod names;
+mod overrides;
+mod placed;
 mod pointer;
 mod records;
 mod rows;
 
 pub use laws::{
-    names_are_apart, nothing_stands, one_reading, one_state, other_files_are_free, unused_names,
+    commits_leave_states, names_are_apart, nothing_stands, one_container_changes, one_damage,
+    one_reading, one_state, other_files_are_free, unused_names,
 };
 pub use locals::{LocalOverride, Locals, read_locals, write_locals};
 pub use names::{OverrideFile, Part, Slot, file_name};
