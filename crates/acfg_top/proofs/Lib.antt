@@ -1,4 +1,16 @@
+pub mod Answering
+pub mod Asking
+pub mod AskingCache
+pub mod Caching
+pub mod Creating
+pub mod Dumping
+pub mod Judging
+pub mod Keeping
 pub mod Lists
+pub mod Looking
+pub mod Merging
 pub mod OneOutcome
+pub mod Putting
+pub mod Reading
 pub mod SomeOutcome
 pub mod Telling

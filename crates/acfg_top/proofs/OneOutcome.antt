@@ -16,11 +16,14 @@ use Rattle.acfg_decls.specs.Compile.{CompilesOwn, FailsOwn}
 use Rattle.acfg_decls.specs.Reading.{Declares}
 use Rattle.acfg_decls.proofs.OneAnswer.{own_apart, own_fails_unique, own_unique}
 use Rattle.acfg_decls.proofs.Unique.{declares_unique, passes_apart, refuses_unique}
-use Rattle.acfg_top.specs.Words.{Command, Flags, Rehearse, Query, Asks}
+use Rattle.acfg_top.specs.Words.{Command, Flags, Rehearse, Query, Dump, CreateCache, Asks}
 use Rattle.acfg_top.specs.Commands.{CommandGives, Gives}
 use Rattle.acfg_top.specs.Flags.{FileFails, FlagsGives, fault_words, flag_line}
 use Rattle.acfg_top.specs.Outcome.{Outcome, Refused, Done}
 use Rattle.acfg_top.specs.Rehearsal.{RehearseGives}
+use Rattle.acfg_top.proofs.Asking.{asks_unique}
+use Rattle.acfg_top.proofs.Creating.{create_cache_unique}
+use Rattle.acfg_top.proofs.Dumping.{dump_gives_unique}
 
 -- a fact that a test decides holds or fails
 holds_or_fails : {P : Type 0} (b : Bool) → Decides b P → P ⊎ ¬ P
@@ -62,27 +65,12 @@ rehearse_gives_unique script files None a b gives also = gives ∙ sym also
 rehearse_gives_unique script files (Some bytes) a b (text, transcript, is) (other, transcript_too, is_too) =
     is ∙ ap (λ t. Done t []) (one_transcript files empty 1 (lines bytes) text other transcript transcript_too) ∙ sym is_too
 
--- words ask for one command
-pub asks_unique : (words : List (List ℕ)) (command other : Command) → Asks words command → Asks words other → command ≡ other
-asks_unique words (Flags file) (Flags path) asks also = let same = sym asks.0 ∙ also.0 in let files : file ≡ path = cc in ap Flags files
-asks_unique words (Rehearse file) (Rehearse path) asks also = let same = sym asks.0 ∙ also.0 in let files : file ≡ path = cc in ap Rehearse files
-asks_unique words (Query dir name flag) (Query path other text) asks also =
-    let same = sym asks.0 ∙ also.0 in
-    let dirs : dir ≡ path = cc in
-    let names : name ≡ other = cc in
-    let flags : flag ≡ text = cc in
-    λ j. Query (dirs j) (names j) (flags j)
-asks_unique words (Query dir name flag) (Flags path) asks also = let same = sym asks.0 ∙ also.0 in cc
-asks_unique words (Query dir name flag) (Rehearse path) asks also = let same = sym asks.0 ∙ also.0 in cc
-asks_unique words (Flags file) (Query path other text) asks also = let same = sym asks.0 ∙ also.0 in cc
-asks_unique words (Rehearse file) (Query path other text) asks also = let same = sym asks.0 ∙ also.0 in cc
-asks_unique words (Flags file) (Rehearse path) asks also = let same = sym asks.0 ∙ also.0 in cc
-asks_unique words (Rehearse file) (Flags path) asks also = let same = sym asks.0 ∙ also.0 in cc
-
 pub command_gives_unique : (command : Command) (files : Files) (a b : Outcome) → CommandGives command files a → CommandGives command files b → a ≡ b
 command_gives_unique (Flags file) files a b gives also = flags_gives_unique file (files file) a b gives also
 command_gives_unique (Rehearse script) files a b gives also = rehearse_gives_unique script files (files script) a b gives also
 command_gives_unique (Query dir name flag) files a b gives also = gives ∙ sym also
+command_gives_unique (Dump format filter names) files a b gives also = dump_gives_unique format filter names files a b gives also
+command_gives_unique (CreateCache name container out names) files a b gives also = create_cache_unique name container out names files a b gives also
 
 pub gives_unique : (words : List (List ℕ)) (files : Files) (a b : Outcome) → Gives words files a → Gives words files b → a ≡ b
 gives_unique words files a b (inl (command, asks, gives)) (inl (other, asks_too, gives_too)) =

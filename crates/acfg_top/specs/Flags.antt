@@ -66,5 +66,7 @@ FileFails name bytes place fault =
 abbrev pub FlagsGives : List ℕ → Option (List ℕ) → Outcome → Type 0
 FlagsGives name None outcome = outcome ≡ Refused name (codes "missing")
 FlagsGives name (Some bytes) outcome =
-    ((file : DeclarationsFile) × (flags : List Flag) × Declares name bytes file × CompilesOwn file flags × (outcome ≡ Done (flat_map flag_line flags) []))
-    ⊎ ((place : ℕ) × (fault : DeclWhat) × FileFails name bytes place fault × (outcome ≡ Refused name (fault_words place fault)))
+    ((file : DeclarationsFile) × (flags : List Flag) × Declares name bytes file × CompilesOwn file flags
+    × (outcome ≡ Done (flat_map flag_line flags) []))
+    ⊎ ((place : ℕ) × (fault : DeclWhat) × FileFails name bytes place fault
+    × (outcome ≡ Refused name (fault_words place fault)))

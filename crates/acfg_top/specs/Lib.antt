@@ -1,6 +1,10 @@
 pub mod Bodies
+pub mod Caches
 pub mod Commands
+pub mod CreateCache
+pub mod Dump
 pub mod Flags
+pub mod Inputs
 pub mod Outcome
 pub mod Query
 pub mod Rehearsal

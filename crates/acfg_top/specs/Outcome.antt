@@ -1,5 +1,5 @@
 -- The outcome of words on files, and what a run leaves of a device where it told it, failed or was refused memory.
-use Rattle.std.specs.Prelude.{◌≡◌, ℕ, ◌⊎◌, List, [], ◌∷◌, ◌++◌, map, Contains, Some, codes}
+use Rattle.std.specs.Prelude.{◌≡◌, ◌≤◌, ℕ, ◌⊎◌, List, [], ◌∷◌, ◌++◌, map, Contains, IsTrue, Some, codes}
 use Rattle.std.specs.Map.{update}
 use Rattle.std.specs.Str.{bytes_eq}
 use Rattle.acfg_base.specs.Bytes.{line_feed}
@@ -45,6 +45,14 @@ written (write ∷ writes) files = written writes (update bytes_eq files write.0
 abbrev pub IsOutput : Outcome → List ℕ → Type 0
 IsOutput outcome name = Contains (map (λ write. write.0) (writes_of outcome)) name
 
+-- what a command does to a panel at most that writes files: others stay, and words are only added
+pub record OnlyWrites {P : Type 0} (panel : Ghosts P) (output : List ℕ → Type 0) (before after : P)
+    (fails : Type 0) : Type 0 where
+  pub others : SameBut output (panel.files before) (panel.files after)
+  pub words : IsTrue panel.tells → (part : List ℕ) × (panel.said after ≡ panel.said before ++ part)
+  pub count : panel.faults before ≤ panel.faults after
+  pub failed : fails → Rose (panel.faults before) (panel.faults after)
+
 module _ {P : Type 0} (panel : Ghosts P) (outcome : Outcome) where
   -- all is done that an outcome asks for: its words are said, its files are written, and a settled device is settled
   pub record IsDone (before after : P) : Type 0 where
@@ -52,10 +60,17 @@ module _ {P : Type 0} (panel : Ghosts P) (outcome : Outcome) where
     pub files : panel.files after ≡ written (writes_of outcome) (panel.files before)
     pub settled : IsSettled (panel.account before).now → IsSettled (panel.account after).now
 
-  -- it was broken off: a first part of its words is said, and no file differs but those that it writes
+  -- its files are written, and a settled device is settled
+  pub record IsWritten (before after : P) : Type 0 where
+    pub files : panel.files after ≡ written (writes_of outcome) (panel.files before)
+    pub settled : IsSettled (panel.account before).now → IsSettled (panel.account after).now
+
+  -- it was broken off: a first part of its words is said, no file differs but those that it writes, and no word is said
+  -- before these are written
   pub record IsBroken (before after : P) : Type 0 where
     pub said : SaysPart (panel.said before) (panel.said after) (said_for outcome)
     pub files : SameBut (IsOutput outcome) (panel.files before) (panel.files after)
+    pub order : (panel.said after ≡ panel.said before) ⊎ IsWritten before after
 
   -- a run that ends with its outcome's status
   pub record Ends (status : ℕ) (before after : P) : Type 0 where
@@ -78,7 +93,8 @@ module _ {P : Type 0} (panel : Ghosts P) (outcome : Outcome) where
   Answers status before after = Ends status before after ⊎ Fails status before after ⊎ Starves status before after
 
 -- a run that told its outcome, one of those that are given
-pub record Tells {P : Type 0} (panel : Ghosts P) (gives : Outcome → Type 0) (status : ℕ) (before after : P) : Type 0 where
+pub record Tells {P : Type 0} (panel : Ghosts P) (gives : Outcome → Type 0) (status : ℕ) (before after : P)
+    : Type 0 where
   pub outcome : Outcome
   pub given : gives outcome
   pub ends : Ends panel outcome status before after

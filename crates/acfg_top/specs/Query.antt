@@ -1,5 +1,6 @@
 -- The outcome of `query DIR P F`: what the four files of a set in DIR list of a flag.
-use Rattle.std.specs.Prelude.{◌≡◌, ℕ, List, [], ◌∷◌, ◌++◌, Bool, Option, None, Some, Result, Ok, Err, if◌then◌else◌, codes}
+use Rattle.std.specs.Prelude.{◌≡◌, ℕ, List, [], ◌∷◌, ◌++◌, Bool, Option, None, Some, Result, Ok, Err}
+use Rattle.std.specs.Prelude.{if◌then◌else◌, codes}
 use Rattle.std.specs.Fmt.{decimal}
 use Rattle.std.specs.Option.{option_map}
 use Rattle.acfg_base.specs.Bytes.{line_feed}
@@ -78,7 +79,8 @@ image_words (image.Node file at) = codes "node at " ++ decimal at
 image_words (image.Twice file at) = codes "twice at " ++ decimal at
 image_words (image.Chain file at) = codes "chain at " ++ decimal at
 image_words (image.Bits file at) = codes "bits at " ++ decimal at
-image_words (image.Disagree what a b) = codes "disagree " ++ point_words what ++ codes " " ++ decimal a ++ codes " " ++ decimal b
+image_words (image.Disagree what a b) =
+    codes "disagree " ++ point_words what ++ codes " " ++ decimal a ++ codes " " ++ decimal b
 image_words image.OutOfMemory = codes "out-of-memory"
 
 -- the file that is named with a fault: package.map where it is none of one file

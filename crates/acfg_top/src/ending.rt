@@ -1,5 +1,6 @@
 //! How a command ends: it told all that it had to, or was stopped.
 
+use acfg_base::OutOfMemory;
 use acfg_daemon::DaemonFault;
 use acfg_device::{Failed, ReadFault};
 use std::alloc::{AllocError, AllocFailed};
@@ -40,6 +41,17 @@ impl<T: Drop> From<AllocFailed<T>> for Stop {
     ghost from_gives = { λ _ stop. stop ≡ OutOfMemory };
 
     fn from(_refusal: AllocFailed<T>) -> Stop {
+        Stop::OutOfMemory
+    }
+}
+
+impl From<OutOfMemory> for Stop {
+    ghost use Rattle.std.specs.Prelude.{◌≡◌};
+    ghost use Rattle.acfg_top.specs.declared.ending.Stop.TheVariants as stop;
+
+    ghost from_gives = { λ _ made. made ≡ stop.OutOfMemory };
+
+    fn from(_refusal: OutOfMemory) -> Stop {
         Stop::OutOfMemory
     }
 }

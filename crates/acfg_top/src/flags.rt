@@ -70,7 +70,7 @@ fn compiled(
     match compile_own(alloc, declarations) {
         Ok(flags) => Ok(Told {
             ending: Ending::Done,
-            text: listing(alloc, flags.list())?,
+            text: listing(alloc, flags.list())?.into_bytes(),
         }),
         Err(CompileFault::In(_, place, what)) => Ok(refused(
             alloc,

@@ -1,9 +1,17 @@
 //! The program: words and files in, words said and a status out.
 #![tactic(auto)]
 
+#[cfg(test)]
+mod cache_tests;
+mod cache_words;
+mod caches;
+mod create_cache;
+mod dump;
 mod ending;
 mod flags;
 mod image_words;
+mod inputs;
+mod output;
 mod query;
 #[cfg(test)]
 mod query_tests;

@@ -9,7 +9,8 @@ ghost use Rattle.acfg_images.specs.Set.{listed};
 ghost use Rattle.acfg_lookup.specs.Lookup.{flag_found};
 ghost use Rattle.acfg_top.specs.Bodies.{Comes, IsOf, refusal_words};
 ghost use Rattle.acfg_top.specs.Outcome.{Outcome, IsBroken, Refused};
-ghost use Rattle.acfg_top.specs.Query.{QueryGives, file_in, all_four, set_in, told_of, judged as given, answer_line, found_line};
+ghost use Rattle.acfg_top.specs.Query.{QueryGives, file_in, all_four, set_in, told_of, judged as given};
+ghost use Rattle.acfg_top.specs.Query.{answer_line, found_line};
 ghost use Rattle.acfg_top.specs.Query.{kind_name as name_of_kind, value_name as name_of_value};
 
 use crate::ending::{Ending, Stop};
@@ -33,7 +34,8 @@ pub fn query<P: Panel>(
     panel: &mut P,
 ) -> Result<Ending, Stop>
     ensures told { IsTrue P.tells → IfOk result (λ ending. Comes P.Panel
-        (QueryGives dir.now asked.entry.package.now asked.entry.flag.now (P.files panel.old)) ending panel.old panel.new) }
+        (QueryGives dir.now asked.entry.package.now asked.entry.flag.now (P.files panel.old)) ending
+        panel.old panel.new) }
     ensures broken { IsTrue P.tells → OnErr result ((outcome : Outcome)
         → QueryGives dir.now asked.entry.package.now asked.entry.flag.now (P.files panel.old) outcome
         → IsBroken P.Panel outcome panel.old panel.new) }
@@ -134,7 +136,7 @@ fn judged(alloc: Global, dir: &str, asked: FlagWords<'_>, set: &ImageSet) -> Res
     match check(alloc, set, Use::Copy) {
         Ok(set) => Ok(Told {
             ending: Ending::Done,
-            text: answer_text(alloc, asked, look_up(&set, asked))?,
+            text: answer_text(alloc, asked, look_up(&set, asked))?.into_bytes(),
         }),
         Err(ImageFault::OutOfMemory) => Err(Stop::OutOfMemory),
         Err(fault) => Ok(refused_in(alloc, dir, faulty_file(fault), Refusal::Image(fault))?),
@@ -146,9 +148,9 @@ fn refused_in(
     alloc: Global,
     dir: &str,
     file: FileType,
-    refusal: Refusal,
+    refusal: Refusal<'_>,
 ) -> Result<Told, AllocError>
-    ensures { IfOk result (IsOf (Refused (file_in dir.now file) (refusal_words refusal))) }
+    ensures { IfOk result (IsOf (Refused (file_in dir.now file) (refusal_words refusal.entry))) }
 {
     let path = path_in(alloc, dir, file)?;
     refused(alloc, path.as_str(), refusal)
@@ -196,7 +198,8 @@ fn found_text(
     kind: Kind,
     value: bool,
 ) -> Result<String, AllocError>
-    ensures { IfOk result (λ text. string_bytes text ≡ found_line asked.entry.package.now asked.entry.flag.now kind value) }
+    ensures { IfOk result (λ text. string_bytes text
+        ≡ found_line asked.entry.package.now asked.entry.flag.now kind value) }
 {
     let package = asked.package;
     let flag = asked.flag;

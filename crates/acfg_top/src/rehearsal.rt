@@ -15,7 +15,8 @@ use std::alloc::Global;
 /// Says the transcript of a script line by line.
 pub fn rehearse_script<P: Panel>(alloc: Global, script: &str, panel: &mut P) -> Result<Ending, Stop>
     ensures told { IsTrue P.tells → IfOk result (λ ending.
-        Comes P.Panel (RehearseGives script.now (P.files panel.old) (P.files panel.old script.now)) ending panel.old panel.new) }
+        Comes P.Panel (RehearseGives script.now (P.files panel.old) (P.files panel.old script.now)) ending
+        panel.old panel.new) }
     ensures broken { IsTrue P.tells → OnErr result ((outcome : Outcome)
         → RehearseGives script.now (P.files panel.old) (P.files panel.old script.now) outcome
         → IsBroken P.Panel outcome panel.old panel.new) }

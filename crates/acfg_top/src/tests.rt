@@ -30,8 +30,8 @@ fn words(alloc: Global, texts: &[&str]) -> Result<Vec<String>, AllocError> {
     Ok(words)
 }
 
-const ONE_FLAG: &str =
-    "package: \"com.example.a\" container: \"system\" flag { name: \"f1\" namespace: \"ns\" description: \"d\" bug: \"1\" }";
+const ONE_FLAG: &str = "package: \"com.example.a\" container: \"system\" \
+     flag { name: \"f1\" namespace: \"ns\" description: \"d\" bug: \"1\" }";
 
 #[test]
 fn flags_are_listed_or_refused(rt: HostRuntime) -> Result<(), Fail> {
@@ -50,7 +50,8 @@ fn flags_are_listed_or_refused(rt: HostRuntime) -> Result<(), Fail> {
             "refused FILE: bad-name at 9\n",
         ),
         (
-            "package: \"com.a\" container: \"c\" flag { name: \"a__b\" namespace: \"n\" description: \"d\" bug: \"1\" }",
+            "package: \"com.a\" container: \"c\" \
+             flag { name: \"a__b\" namespace: \"n\" description: \"d\" bug: \"1\" }",
             2,
             "refused FILE: bad-name at 45\n",
         ),
@@ -60,17 +61,20 @@ fn flags_are_listed_or_refused(rt: HostRuntime) -> Result<(), Fail> {
             "refused FILE: missing-field at 20\n",
         ),
         (
-            "package: \"com.\" 'a' container: \"c\"; flag < name: \"\\x66\" namespace: \"n\", description: 'it\\'s' bug: [ \"b1\" ] > # end",
+            "package: \"com.\" 'a' container: \"c\"; \
+             flag < name: \"\\x66\" namespace: \"n\", description: 'it\\'s' bug: [ \"b1\" ] > # end",
             0,
             "com.a.f [c]: READ_WRITE + DISABLED\n",
         ),
         (
-            "package: \"com.a\" container: \"c\" flag { name: \"f\" namespace: \"n\" description: \"d\" bug: [\"1\", \"2\"] }",
+            "package: \"com.a\" container: \"c\" \
+             flag { name: \"f\" namespace: \"n\" description: \"d\" bug: [\"1\", \"2\"] }",
             2,
             "refused FILE: bug-count 2 at 37\n",
         ),
         (
-            "package: \"com.android.intro\" container: \"system_ext\" flag { name: \"new_page\" namespace: \"intro\" description: \"d\" bug: \"1\" is_fixed_read_only: true }",
+            "package: \"com.android.intro\" container: \"system_ext\" flag { name: \"new_page\" \
+             namespace: \"intro\" description: \"d\" bug: \"1\" is_fixed_read_only: true }",
             0,
             "com.android.intro.new_page [system]: READ_ONLY + DISABLED\n",
         ),
@@ -90,7 +94,8 @@ fn flags_are_listed_or_refused(rt: HostRuntime) -> Result<(), Fail> {
             "refused FILE: unexpected at 64\n",
         ),
         (
-            "package:\"com.a\"container:\"system_ext\"flag{name:\"z\"namespace:\"n\"description:\"d\"bug:\"1\"}\nflag{name:\"b_1\"namespace:\"n\"description:\"d\"bug:\"1\"}",
+            "package:\"com.a\"container:\"system_ext\"flag{name:\"z\"namespace:\"n\"description:\"d\"bug:\"1\"}\n\
+             flag{name:\"b_1\"namespace:\"n\"description:\"d\"bug:\"1\"}",
             0,
             "com.a.b_1 [system]: READ_WRITE + DISABLED\ncom.a.z [system]: READ_WRITE + DISABLED\n",
         ),
@@ -143,8 +148,8 @@ fn words_files_and_faults(rt: HostRuntime) -> Result<(), Fail> {
 #[test]
 fn a_script_is_rehearsed(rt: HostRuntime) -> Result<(), Fail> {
     let alloc = rt.alloc();
-    let in_c =
-        "package: \"com.example.a\" container: \"c\" flag { name: \"f1\" namespace: \"ns\" description: \"d\" bug: \"1\" }";
+    let in_c = "package: \"com.example.a\" container: \"c\" \
+         flag { name: \"f1\" namespace: \"ns\" description: \"d\" bug: \"1\" }";
     let script = ("S", "0 update c rel1\n0 boot\n");
     let updated =
         "0 updated 0f6c18d9bc775991b67535e086d8cae978eda2af8eb94b1098061d5c001a4acf 1\n0 ok\n";
@@ -234,6 +239,6 @@ fn a_line_is_cut_off(rt: HostRuntime) {
         room: 7,
         faults: 0,
     };
-    assert!(rt; crate::told::say(&mut panel, "com.example.a.f1").is_err());
+    assert!(rt; crate::told::say(&mut panel, b"com.example.a.f1").is_err());
     assert_eq!(rt; panel.said.as_slice(), b"com.exa".as_slice());
 }

@@ -1,25 +1,67 @@
 //! What a command has to tell, and how it is said.
 
-ghost use Rattle.std.specs.Prelude.{◌≡◌, ◌++◌, string_bytes, IfErr, IfOk, IsErr, IsTrue, OnErr, OnOk};
+ghost use Rattle.std.specs.Prelude.{◌≡◌, ◌++◌, IfErr, IfOk, IsErr, IsTrue, OnErr, OnOk};
 ghost use Rattle.acfg_device.specs.Only.{OnlySays};
 ghost use Rattle.acfg_device.specs.Panel.{SaysPart};
 ghost use Rattle.acfg_top.specs.Bodies.{refusal_words, IsOf};
 ghost use Rattle.acfg_top.specs.Outcome.{Refused};
 
+use crate::cache_words::PrintedCache;
 use crate::ending::{Ending, Stop};
 use crate::image_words::PrintedFault;
+use acfg_base::OutOfMemory;
+use acfg_cache::CacheFault;
 use acfg_decls::DeclWhat;
 use acfg_device::Panel;
 use acfg_images::ImageFault;
 use acfg_text::TextWhat;
-use std::alloc::{AllocError, Global};
+use std::alloc::{AllocError, AllocFailed, Global};
 use std::fmt;
 
 /// What a command has to tell: how it ends, and the words to say.
 #[derive(Debug, Drop)]
 pub struct Told {
     pub ending: Ending,
-    pub text: String,
+    pub text: Vec<u8>,
+}
+
+/// Why inputs are judged no further.
+#[derive(Debug, Drop)]
+pub enum Halt {
+    /// One of them is refused, as is to be told.
+    Refused(Told),
+    /// Memory was refused.
+    OutOfMemory,
+}
+
+impl From<AllocError> for Halt {
+    ghost use Rattle.acfg_top.specs.declared.told.Halt.TheVariants as halt;
+
+    ghost from_gives = { λ _ made. made ≡ halt.OutOfMemory };
+
+    fn from(_refused: AllocError) -> Halt {
+        Halt::OutOfMemory
+    }
+}
+
+impl From<OutOfMemory> for Halt {
+    ghost use Rattle.acfg_top.specs.declared.told.Halt.TheVariants as halt;
+
+    ghost from_gives = { λ _ made. made ≡ halt.OutOfMemory };
+
+    fn from(_refused: OutOfMemory) -> Halt {
+        Halt::OutOfMemory
+    }
+}
+
+impl<T: Drop> From<AllocFailed<T>> for Halt {
+    ghost use Rattle.acfg_top.specs.declared.told.Halt.TheVariants as halt;
+
+    ghost from_gives = { λ _ made. made ≡ halt.OutOfMemory };
+
+    fn from(_refused: AllocFailed<T>) -> Halt {
+        Halt::OutOfMemory
+    }
 }
 
 // What is wrong with a file of declarations or values, as the program says it.
@@ -58,16 +100,24 @@ impl fmt::Display for Printed {
 
 /// Why an input is refused. It is printed as the program says it.
 #[derive(Clone, Copy, Debug)]
-pub enum Refusal {
+pub enum Refusal<'a> {
     /// There is no such file.
     Missing,
     /// The first fault of a file of declarations or values, and its byte place from 0.
     Declarations(usize, DeclWhat),
     /// The first fault of a set of storage files.
     Image(ImageFault),
+    /// The place of the first bad brace of a template.
+    Placeholder(usize),
+    /// The place of the first bad condition of a filter.
+    Filter(usize),
+    /// The first fault of a cache.
+    Cache(CacheFault),
+    /// Two caches have a flag of this `package.name` that don't go together.
+    Clash(&'a str),
 }
 
-impl fmt::Display for Refusal {
+impl fmt::Display for Refusal<'_> {
     ghost use Rattle.std.specs.Prelude.{Some};
     ghost use Rattle.acfg_top.specs.Bodies.{refusal_words};
 
@@ -84,39 +134,47 @@ impl fmt::Display for Refusal {
                 let fault = PrintedFault(*fault);
                 write!(f, "{fault}")
             }
+            Refusal::Placeholder(place) => write!(f, "bad-placeholder at {place}"),
+            Refusal::Filter(place) => write!(f, "bad-filter at {place}"),
+            Refusal::Cache(fault) => {
+                let fault = PrintedCache(*fault);
+                write!(f, "{fault}")
+            }
+            Refusal::Clash(name) => write!(f, "clash {name}"),
         }
     }
 }
 
 /// The refusal of a file.
-pub fn refused(alloc: Global, file: &str, refusal: Refusal) -> Result<Told, AllocError>
-    ensures { IfOk result (IsOf (Refused file.now (refusal_words refusal))) }
+pub fn refused(alloc: Global, file: &str, refusal: Refusal<'_>) -> Result<Told, AllocError>
+    ensures { IfOk result (IsOf (Refused file.now (refusal_words refusal.entry))) }
 {
+    let text = format!(in alloc; "refused {file}: {refusal}\n")?;
     Ok(Told {
         ending: Ending::Refused,
-        text: format!(in alloc; "refused {file}: {refusal}\n")?,
+        text: text.into_bytes(),
     })
 }
 
 /// Says what a command has to tell, and answers how it ends.
 pub fn tell<P: Panel>(panel: &mut P, told: &Told) -> Result<Ending, Stop>
     ensures ending { IfOk result (λ ending. ending ≡ told.now.ending) }
-    ensures ok { IsTrue P.tells → OnOk result (P.said panel.new ≡ P.said panel.old ++ string_bytes told.now.text) }
-    ensures err { IsTrue P.tells → OnErr result (SaysPart (P.said panel.old) (P.said panel.new) (string_bytes told.now.text)) }
+    ensures ok { IsTrue P.tells → OnOk result (P.said panel.new ≡ P.said panel.old ++ told.now.text.items) }
+    ensures err { IsTrue P.tells → OnErr result (SaysPart (P.said panel.old) (P.said panel.new) told.now.text.items) }
     ensures stop { IfErr result (λ stop. stop ≡ Stop.Failed) }
     ensures says { OnlySays P.Panel panel.old panel.new (result ≡ Err Stop.Failed) }
 {
-    say(panel, told.text.as_str())?;
+    say(panel, told.text.as_slice())?;
     Ok(told.ending)
 }
 
 /// Says words.
-pub fn say<P: Panel>(panel: &mut P, words: &str) -> Result<(), Stop>
+pub fn say<P: Panel>(panel: &mut P, words: &[u8]) -> Result<(), Stop>
     ensures ok { IsTrue P.tells → OnOk result (P.said panel.new ≡ P.said panel.old ++ words.now) }
     ensures err { IsTrue P.tells → OnErr result (SaysPart (P.said panel.old) (P.said panel.new) words.now) }
     ensures stop { IfErr result (λ stop. stop ≡ Stop.Failed) }
     ensures says { OnlySays P.Panel panel.old panel.new (result ≡ Err Stop.Failed) }
 {
-    panel.say(words.as_bytes())?;
+    panel.say(words)?;
     Ok(())
 }

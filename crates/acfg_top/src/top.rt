@@ -3,11 +3,13 @@
 ghost use Rattle.std.specs.Prelude.{◌≡◌, ◌≤◌, ◌⊎◌, ◌≢◌, ℕ, List, IsTrue, IfOk, OnErr, map, string_bytes};
 ghost use Rattle.acfg_device.specs.Only.{OnlySays};
 ghost use Rattle.acfg_device.specs.Panel.{Files, Rose};
-ghost use Rattle.acfg_top.specs.Bodies.{command_of, status_of, Comes};
+ghost use Rattle.acfg_top.specs.Bodies.{command_of, status_of, Comes, HasNames};
 ghost use Rattle.acfg_top.specs.Commands.{CommandGives, Gives, Only};
 ghost use Rattle.acfg_top.specs.Outcome.{Answers, IsBroken, IsDone, IsStatus, Outcome, Tells, Usage};
 ghost use Rattle.acfg_top.specs.Words.{Asks};
 
+use crate::create_cache::create_cache;
+use crate::dump::dump_caches;
 use crate::ending::{Ending, Stop};
 use crate::flags::flags;
 use crate::query::query;
@@ -17,7 +19,7 @@ use crate::words::{Command, read_command};
 use acfg_device::{Device, Panel};
 use std::alloc::Global;
 
-const USAGE: &str = "usage: acfg COMMAND WORD..\n";
+const USAGE: &[u8] = b"usage: acfg COMMAND WORD..\n";
 
 /// Does all that the program does, and answers its status.
 ///
@@ -80,10 +82,12 @@ fn tell_usage<D: Device>(dev: &mut D) -> u8
 
 // Does what a command asks for.
 fn carry_out<D: Device>(alloc: Global, command: Command<'_>, dev: &mut D) -> Result<Ending, Stop>
+    requires { HasNames (command_of command) }
     ensures told { IsTrue D.tells → IfOk result (λ ending.
         Comes D.Panel (CommandGives (command_of command.entry) (D.files dev.old)) ending dev.old dev.new) }
     ensures broken { IsTrue D.tells → OnErr result ((outcome : Outcome)
-        → CommandGives (command_of command.entry) (D.files dev.old) outcome → IsBroken D.Panel outcome dev.old dev.new) }
+        → CommandGives (command_of command.entry) (D.files dev.old) outcome
+        → IsBroken D.Panel outcome dev.old dev.new) }
     ensures only { Only D.Panel (command_of command.entry) dev.old dev.new (result ≡ Err Stop.Failed) }
     ensures count { D.faults dev.old ≤ D.faults dev.new }
     ensures failed { result ≡ Err Stop.Failed → Rose (D.faults dev.old) (D.faults dev.new) }
@@ -92,6 +96,8 @@ fn carry_out<D: Device>(alloc: Global, command: Command<'_>, dev: &mut D) -> Res
         Command::Flags(file) => flags(alloc, file, dev),
         Command::Rehearse(script) => rehearse_script(alloc, script, dev),
         Command::Query(dir, asked) => query(alloc, dir, asked, dev),
+        Command::Dump(asked) => dump_caches(alloc, asked, dev),
+        Command::CreateCache(asked) => create_cache(alloc, asked, dev),
     }
 }
 

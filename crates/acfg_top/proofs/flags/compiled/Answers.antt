@@ -1,4 +1,5 @@
-use Rattle.std.proofs.Common.{refl, subst, inl, inr, []}
+use Rattle.std.proofs.Common.{refl, subst, inl, inr, [], ap, ◌∙◌, ℕ, Global}
+use Rattle.std.specs.Prelude.{Vec}
 use Rattle.std.specs.List.{flat_map}
 use Rattle.acfg_decls.specs.Compile.{FailsOwn, IfIn}
 use Rattle.acfg_top.specs.Flags.{fault_words, flag_line}
@@ -10,7 +11,7 @@ returns-in_ok-listing-in-Ok-clause-told c =
     let flags = c.list.result.now in (
       Done (flat_map flag_line flags) [],
       inl (c.args.declarations.now, flags, c.requires, rw (c.list.ensures.all) c.in-Ok.ensures.ok, refl),
-      record { ending = refl; text = c.in_ok-listing-in-Ok.ensures; nothing = refl },
+      record { ending = refl; text = ap (λ (bytes : Vec ℕ Global). bytes.items) c.into_bytes.ensures.value ∙ c.in_ok-listing-in-Ok.ensures; nothing = refl },
     )
 
 pub returns-in_ok-refused-in-Err-In-clause-told : goal.returns-in_ok-refused-in-Err-In-clause-told

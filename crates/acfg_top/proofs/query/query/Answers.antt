@@ -1,6 +1,6 @@
-use Rattle.std.proofs.Common.{string_bytes, refl, sym, ap, ◌∙◌}
+use Rattle.std.proofs.Common.{refl, sym, ap, ◌∙◌}
 use Rattle.std.proofs.lemmas.Result.{on_err_weaker}
-use Rattle.acfg_top.specs.Outcome.{said_for}
+use Rattle.acfg_top.specs.Outcome.{said_for, writes_of}
 use Rattle.acfg_top.specs.Query.{QueryGives, judged, set_in}
 use Rattle.acfg_top.proofs.Telling.{tell_comes, told_broken}
 use Rattle.acfg_top.proofs.query.query.Goals as goal
@@ -20,4 +20,4 @@ returns-clause-broken g c = λ tells.
     let read = c.in_ok-told.ensures.reads in
     let mine = c.in_ok-told.ensures.told tells in
     on_err_weaker c.tell.result (λ part outcome given.
-    told_broken g.P.Panel read.files read.said outcome (string_bytes c.in_ok-told.told.text) (mine.text ∙ ap said_for (sym given)) c.tell.ensures.says part) (c.tell.ensures.err tells)
+    told_broken g.P.Panel read.files read.said read.account outcome c.in_ok-told.told.text.items (mine.text ∙ ap said_for (sym given)) (ap writes_of given ∙ mine.nothing) c.tell.ensures.says part) (c.tell.ensures.err tells)

@@ -15,7 +15,7 @@ returns-in-Some-clause-broken g c = λ tells.
     let found : g.P.Panel.files c.args.panel.now script ≡ Some c.deref.result.now =
     sym (read.found tells) ∙ ap (option_map (λ (bytes : Vec ℕ Global). bytes.items)) c.in-Some.is ∙ ap Some (sym c.deref.ensures.value) in
     on_err_weaker c.transcribe.result (λ broken outcome given.
-    broken_earlier g.P.Panel read.files read.said outcome
+    broken_earlier g.P.Panel read.files read.said read.account outcome
     (broken outcome (subst (λ (files : Files). RehearseGives script files (Some c.deref.result.now) outcome) (sym read.files)
     (subst (λ file. RehearseGives script (g.P.Panel.files c.args.panel.now) file outcome) found given)))) (c.transcribe.ensures.broken tells)
 

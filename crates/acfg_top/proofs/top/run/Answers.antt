@@ -1,6 +1,8 @@
-use Rattle.std.proofs.Common.{map, string_bytes, inl}
+use Rattle.std.proofs.Common.{◌≡◌, map, string_bytes, inl, subst}
 use Rattle.acfg_top.specs.Bodies.{command_of}
-use Rattle.acfg_top.specs.Commands.{CommandGives, Gives}
+use Rattle.acfg_top.specs.Commands.{CommandGives, Gives, Only}
+use Rattle.acfg_top.proofs.Asking.{asks_unique}
+use Rattle.acfg_top.proofs.Keeping.{only_weaker, status_failed}
 use Rattle.acfg_top.proofs.OneOutcome.{command_gives_unique, gives_command}
 use Rattle.acfg_top.proofs.Telling.{answers_exact, ending_tells}
 use Rattle.acfg_top.proofs.top.run.Goals as goal
@@ -19,3 +21,8 @@ returns-in-Some-clause-told g c = λ tells failed starved.
     let files = g.D.Panel.files c.args.dev.now in
     ending_tells g.D.Panel (CommandGives command files) (Gives (map string_bytes c.args.words.now) files) (λ outcome given. inl (command, c.in-Some.ensures, given))
     c.carry_out.result c.status.result c.args.dev.now c.carry_out.new.dev (c.carry_out.ensures.told tells) c.status.ensures failed starved
+
+pub returns-in-Some-clause-only : goal.returns-in-Some-clause-only
+returns-in-Some-clause-only g c = λ command asks.
+    subst (λ command. Only g.D.Panel command c.args.dev.now c.carry_out.new.dev (c.status.result ≡ 4)) (asks_unique (map string_bytes c.args.words.now) (command_of c.in-Some.command) command c.in-Some.ensures asks)
+    (only_weaker g.D.Panel (command_of c.in-Some.command) c.args.dev.now c.carry_out.new.dev (status_failed c.carry_out.result c.status.result c.status.ensures) c.carry_out.ensures.only)
