@@ -29,11 +29,12 @@ use Rattle.acfg_top.specs.declared.inputs.Found.{Found}
 use Rattle.acfg_top.specs.declared.inputs.Found.TheVariants as found
 use Rattle.acfg_top.specs.declared.words as source
 use Rattle.acfg_top.specs.Caches.{cache_words}
+use Rattle.acfg_top.specs.CreateStorage.{limit_words}
 use Rattle.acfg_top.specs.Flags.{fault_words}
 use Rattle.acfg_top.specs.Inputs.{Given}
 use Rattle.acfg_top.specs.Outcome.{Outcome, Usage, Refused, Done, IsDone, Writes, said_for, writes_of}
 use Rattle.acfg_top.specs.Query.{image_words}
-use Rattle.acfg_top.specs.Words.{Command, Flags, Rehearse, Query, Dump, CreateCache}
+use Rattle.acfg_top.specs.Words.{Command, Flags, Rehearse, Query, Dump, CreateCache, CreateStorage}
 
 abbrev pub command_of : source.Command.Command → Command
 command_of (source.Command.TheVariants.Flags file) = Flags file.now
@@ -43,10 +44,13 @@ command_of (source.Command.TheVariants.Dump asked) =
     Dump asked.format.now asked.filter.now (map string_bytes asked.files.now)
 command_of (source.Command.TheVariants.CreateCache asked) =
     CreateCache asked.package.now asked.container.now asked.out.now (map string_bytes asked.files.now)
+command_of (source.Command.TheVariants.CreateStorage asked) =
+    CreateStorage asked.container.now asked.dir.now (map string_bytes asked.caches.now)
 
 -- the names that a command builds with are lawful
 abbrev pub HasNames : Command → Type 0
 HasNames (CreateCache name container out files) = IsPackage name × IsContainer container
+HasNames (CreateStorage container dir caches) = IsContainer container
 HasNames _ = Unit {0}
 
 abbrev pub stop_of_read : ReadFault → Stop
@@ -77,7 +81,9 @@ refusal_words (refusal.Image fault) = image_words fault
 refusal_words (refusal.Placeholder place) = codes "bad-placeholder at " ++ decimal place
 refusal_words (refusal.Filter place) = codes "bad-filter at " ++ decimal place
 refusal_words (refusal.Cache fault) = cache_words fault
+refusal_words (refusal.Stranger position) = codes "wrong-container flag " ++ decimal position
 refusal_words (refusal.Clash name) = codes "clash " ++ name.now
+refusal_words (refusal.Limit fault) = limit_words fault
 
 -- files as a command writes them
 abbrev pub writes_in : List NewFile → Writes
@@ -107,6 +113,17 @@ pub record IsOutputOf (outcome : Outcome) (output : Output) : Type 0 where
 -- of one of these outcomes
 abbrev pub IsProduct : (Outcome → Type 0) → Output → Type 0
 IsProduct gives output = (outcome : Outcome) × gives outcome × IsOutputOf outcome output
+
+-- of one of these outcomes, by which all is done
+pub record IsMade (gives : Outcome → Type 0) (output : Output) : Type 0 where
+  pub text : List ℕ
+  pub writes : Writes
+  pub given : gives (Done text writes)
+  pub is : IsOutputOf (Done text writes) output
+
+-- each file has one of these names
+abbrev pub AreAmong : (List ℕ → Type 0) → Output → Type 0
+AreAmong names output = (other : List ℕ) → IsNameAmong output.files.items other → names other
 
 -- all files have this name
 abbrev pub AreAt : List ℕ → Output → Type 0

@@ -4,12 +4,13 @@ use Rattle.acfg_device.specs.Only.{OnlySays}
 use Rattle.acfg_device.specs.Panel.{Files}
 use Rattle.acfg_device.specs.declared.panel.Panel.{Ghosts}
 use Rattle.acfg_top.specs.CreateCache.{CreateCacheGives}
+use Rattle.acfg_top.specs.CreateStorage.{CreateStorageGives, IsFileIn}
 use Rattle.acfg_top.specs.Dump.{DumpGives}
 use Rattle.acfg_top.specs.Flags.{FlagsGives}
 use Rattle.acfg_top.specs.Outcome.{OnlyWrites, Outcome, Usage}
 use Rattle.acfg_top.specs.Query.{QueryGives}
 use Rattle.acfg_top.specs.Rehearsal.{RehearseGives}
-use Rattle.acfg_top.specs.Words.{Command, Flags, Rehearse, Query, Dump, CreateCache, Asks}
+use Rattle.acfg_top.specs.Words.{Command, Flags, Rehearse, Query, Dump, CreateCache, CreateStorage, Asks}
 
 abbrev pub CommandGives : Command → Files → Outcome → Type 0
 CommandGives (Flags file) files outcome = FlagsGives file (files file) outcome
@@ -18,6 +19,7 @@ CommandGives (Query dir name flag) files outcome = QueryGives dir name flag file
 CommandGives (Dump format filter names) files outcome = DumpGives format filter names files outcome
 CommandGives (CreateCache name container out names) files outcome =
     CreateCacheGives name container out names files outcome
+CommandGives (CreateStorage container dir names) files outcome = CreateStorageGives container dir names files outcome
 
 -- The outcome of words on files: that of the command they ask for, and usage where they ask for none.
 abbrev pub Gives : List (List ℕ) → Files → Outcome → Type 0
@@ -33,3 +35,5 @@ Only panel (Query dir name flag) before after fails = OnlySays panel before afte
 Only panel (Dump format filter names) before after fails = OnlySays panel before after fails
 Only panel (CreateCache name container out names) before after fails =
     OnlyWrites panel (λ other. other ≡ out) before after fails
+Only panel (CreateStorage container dir names) before after fails =
+    OnlyWrites panel (IsFileIn dir) before after fails

@@ -2,6 +2,7 @@ pub mod Bodies
 pub mod Caches
 pub mod Commands
 pub mod CreateCache
+pub mod CreateStorage
 pub mod Dump
 pub mod Flags
 pub mod Inputs

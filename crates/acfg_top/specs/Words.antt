@@ -33,6 +33,8 @@ pub data Command : Type 0 where
   Dump : List ℕ → List ℕ → List (List ℕ) → Command
   -- `create-cache PACKAGE CONTAINER OUT FILE..`
   CreateCache : List ℕ → List ℕ → List ℕ → List (List ℕ) → Command
+  -- `create-storage CONTAINER DIR CACHE..`
+  CreateStorage : List ℕ → List ℕ → List (List ℕ) → Command
 
 abbrev pub Asks : List (List ℕ) → Command → Type 0
 Asks words (Flags file) = (words ≡ codes "flags" ∷ file ∷ []) × IsPathWord file
@@ -44,3 +46,6 @@ Asks words (Dump format filter files) =
 Asks words (CreateCache name container out files) =
     (words ≡ codes "create-cache" ∷ name ∷ container ∷ out ∷ files) × IsPackage name × IsContainer container
     × IsPathWord out × ArePathWords files
+Asks words (CreateStorage container dir caches) =
+    (words ≡ codes "create-storage" ∷ container ∷ dir ∷ caches) × IsContainer container × IsPathWord dir
+    × ArePathWords caches

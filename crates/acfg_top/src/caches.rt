@@ -23,8 +23,8 @@ pub fn read_caches(alloc: Global, inputs: &[Input<'_>]) -> Result<Vec<Flags>, Ha
     Ok(lists)
 }
 
-// The flags of a cache, or its refusal.
-fn read_cache(alloc: Global, input: &Input<'_>) -> Result<Flags, Halt>
+/// The flags of a cache, or its refusal.
+pub fn read_cache(alloc: Global, input: &Input<'_>) -> Result<Flags, Halt>
     ensures ok { IfOk result (IsCache (input_of input.now)) }
     ensures err { IfErr result (IfRefused (λ file what. (file ≡ input.now.name.now)
         × IsBadCache (input_of input.now) what)) }

@@ -159,7 +159,8 @@ fn package_of(alloc: Global, name: &str) -> Result<PackageName, OutOfMemory>
     }
 }
 
-fn container_of(alloc: Global, name: &str) -> Result<ContainerName, OutOfMemory>
+/// A lawful name as the name of a container.
+pub fn container_of(alloc: Global, name: &str) -> Result<ContainerName, OutOfMemory>
     requires { IsContainer name.now }
     ensures { IfOk result (λ made. made ≡ name.now) }
 {

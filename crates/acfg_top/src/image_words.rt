@@ -3,7 +3,7 @@
 ghost use Rattle.std.specs.Prelude.{◌≡◌};
 ghost use Rattle.acfg_top.specs.Query.{faulty_file as faulty, file_name as name_of};
 
-use acfg_images::{FileType, ImageFault, Point2};
+use acfg_images::{BuildFault, FileType, ImageFault, Point2};
 use acfg_views::ViewFault;
 use std::fmt;
 
@@ -33,6 +33,25 @@ impl fmt::Display for PrintedFault {
                 write!(f, "disagree {what} {a} {b}")
             }
             ImageFault::OutOfMemory => write!(f, "out-of-memory"),
+        }
+    }
+}
+
+/// A limit that an image would pass, to be printed.
+#[derive(Drop)]
+pub struct PrintedLimit(pub BuildFault);
+
+impl fmt::Display for PrintedLimit {
+    ghost use Rattle.std.specs.Prelude.{Some};
+    ghost use Rattle.acfg_top.specs.CreateStorage.{limit_words};
+
+    ghost output = { λ printed. Some (limit_words printed.0) };
+
+    fn fmt<W: fmt::Write>(&self, f: &mut fmt::Formatter<W>) -> fmt::Result {
+        match self.0 {
+            BuildFault::TooManyFlags(count) => write!(f, "too-many-flags {count}"),
+            BuildFault::TooLarge(bytes) => write!(f, "too-large {bytes}"),
+            BuildFault::OutOfMemory => write!(f, "out-of-memory"),
         }
     }
 }

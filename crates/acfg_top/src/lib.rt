@@ -6,6 +6,7 @@ mod cache_tests;
 mod cache_words;
 mod caches;
 mod create_cache;
+mod create_storage;
 mod dump;
 mod ending;
 mod flags;

@@ -93,8 +93,8 @@ fn read_file<P: Panel>(
     Ok(panel.read(alloc, path.as_str())?)
 }
 
-// Where one of the files stands.
-fn path_in(alloc: Global, dir: &str, file: FileType) -> Result<String, AllocError>
+/// Where one of the files stands.
+pub fn path_in(alloc: Global, dir: &str, file: FileType) -> Result<String, AllocError>
     ensures { IfOk result (λ path. string_bytes path ≡ file_in dir.now file) }
 {
     let name = file_name(file);

@@ -8,12 +8,12 @@ ghost use Rattle.acfg_top.specs.Outcome.{Refused};
 
 use crate::cache_words::PrintedCache;
 use crate::ending::{Ending, Stop};
-use crate::image_words::PrintedFault;
+use crate::image_words::{PrintedFault, PrintedLimit};
 use acfg_base::OutOfMemory;
 use acfg_cache::CacheFault;
 use acfg_decls::DeclWhat;
 use acfg_device::Panel;
-use acfg_images::ImageFault;
+use acfg_images::{BuildFault, ImageFault};
 use acfg_text::TextWhat;
 use std::alloc::{AllocError, AllocFailed, Global};
 use std::fmt;
@@ -113,8 +113,12 @@ pub enum Refusal<'a> {
     Filter(usize),
     /// The first fault of a cache.
     Cache(CacheFault),
+    /// The position of a cache's first flag that is another container's.
+    Stranger(usize),
     /// Two caches have a flag of this `package.name` that don't go together.
     Clash(&'a str),
+    /// A limit that an image would pass.
+    Limit(BuildFault),
 }
 
 impl fmt::Display for Refusal<'_> {
@@ -140,7 +144,12 @@ impl fmt::Display for Refusal<'_> {
                 let fault = PrintedCache(*fault);
                 write!(f, "{fault}")
             }
+            Refusal::Stranger(position) => write!(f, "wrong-container flag {position}"),
             Refusal::Clash(name) => write!(f, "clash {name}"),
+            Refusal::Limit(fault) => {
+                let fault = PrintedLimit(*fault);
+                write!(f, "{fault}")
+            }
         }
     }
 }

@@ -9,6 +9,7 @@ ghost use Rattle.acfg_top.specs.Outcome.{Answers, IsBroken, IsDone, IsStatus, Ou
 ghost use Rattle.acfg_top.specs.Words.{Asks};
 
 use crate::create_cache::create_cache;
+use crate::create_storage::create_storage;
 use crate::dump::dump_caches;
 use crate::ending::{Ending, Stop};
 use crate::flags::flags;
@@ -98,6 +99,7 @@ fn carry_out<D: Device>(alloc: Global, command: Command<'_>, dev: &mut D) -> Res
         Command::Query(dir, asked) => query(alloc, dir, asked, dev),
         Command::Dump(asked) => dump_caches(alloc, asked, dev),
         Command::CreateCache(asked) => create_cache(alloc, asked, dev),
+        Command::CreateStorage(asked) => create_storage(alloc, asked, dev),
     }
 }
 

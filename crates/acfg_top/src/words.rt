@@ -20,6 +20,8 @@ pub enum Command<'a> {
     Dump(DumpWords<'a>),
     /// `create-cache PACKAGE CONTAINER OUT FILE..`
     CreateCache(CacheWords<'a>),
+    /// `create-storage CONTAINER DIR CACHE..`
+    CreateStorage(StorageWords<'a>),
 }
 
 /// A flag as words name it: lawful names of a package and of a flag.
@@ -44,6 +46,14 @@ pub struct CacheWords<'a> {
     pub container: &'a str,
     pub out: &'a str,
     pub files: &'a [String],
+}
+
+/// An image set to be written, and what it is made of.
+#[derive(Clone, Copy, Debug)]
+pub struct StorageWords<'a> {
+    pub container: &'a str,
+    pub dir: &'a str,
+    pub caches: &'a [String],
 }
 
 /// What the words ask for, by position alone; nothing where they are of no command.
@@ -114,6 +124,9 @@ fn read_writing<'a>(
 {
     if name == "create-cache" {
         return read_create_cache(first, second, rest);
+    }
+    if name == "create-storage" {
+        return read_create_storage(first, second, rest);
     }
     None
 }
@@ -212,6 +225,33 @@ fn read_sources<'a>(
         container,
         out,
         files,
+    }))
+}
+
+// What `create-storage` and the words of a container, a directory and caches ask for.
+fn read_create_storage<'a>(
+    container: &'a str,
+    dir: &'a str,
+    caches: &'a [String],
+) -> Option<Command<'a>>
+    ensures { MatchOption result
+        ((asked : _) → Asks (codes "create-storage" ∷ container.now ∷ dir.now ∷ map string_bytes caches.now) asked → ⊥)
+        (λ asked. Asks (codes "create-storage" ∷ container.now ∷ dir.now ∷ map string_bytes caches.now)
+        (command_of asked)) }
+{
+    if !is_container(container.as_bytes()) {
+        return None;
+    }
+    if !is_path_word(dir) {
+        return None;
+    }
+    if !are_path_words(caches) {
+        return None;
+    }
+    Some(Command::CreateStorage(StorageWords {
+        container,
+        dir,
+        caches,
     }))
 }
 
