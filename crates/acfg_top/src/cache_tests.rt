@@ -7,12 +7,12 @@ use std::alloc::{AllocError, Global};
 use std::test::Fail;
 
 /// The cache of the one flag `com.a.f` of the container `c`, as the encoding of Protocol Buffers has it.
-const ONE_FLAG: &[u8] =
+pub const ONE_FLAG: &[u8] =
     b"\x0a\x2f\x0a\x05com.a\x12\x01f\x1a\x01n\x22\x01d\x2a\x011\x30\x02\x38\x02\x42\x0f\x0a\x09\
     d.aconfig\x10\x02\x18\x02\x48\0\x50\0\x5a\x01c";
 
 /// The same with its state once more, which is ENABLED, and an unknown field.
-const ENABLED: &[u8] =
+pub const ENABLED: &[u8] =
     b"\x0a\x33\x0a\x05com.a\x12\x01f\x1a\x01n\x22\x01d\x2a\x011\x30\x02\x38\x02\x42\x0f\x0a\x09\
     d.aconfig\x10\x02\x18\x02\x48\0\x50\0\x5a\x01c\x30\x01\x78\x05";
 
@@ -53,7 +53,7 @@ fn device(alloc: Global, fails: Vec<u64>) -> Result<MemDevice, OutOfMemory> {
     MemDevice::new(alloc, held, fails)
 }
 
-fn words(alloc: Global, texts: &[&str]) -> Result<Vec<String>, AllocError> {
+pub fn words(alloc: Global, texts: &[&str]) -> Result<Vec<String>, AllocError> {
     let mut words = Vec::new(alloc);
     for text in texts {
         words.push(String::from_str(alloc, text)?)?;

@@ -20,6 +20,8 @@ mod rehearsal;
 #[cfg(test)]
 mod script_tests;
 #[cfg(test)]
+mod storage_tests;
+#[cfg(test)]
 mod tests;
 mod told;
 mod top;

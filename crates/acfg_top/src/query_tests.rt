@@ -7,7 +7,7 @@ use std::alloc::{AllocError, Global};
 use std::test::Fail;
 
 /// The set of container `c` with the one flag `com.a.f`, which is read-write and false.
-const ONE_FLAG: [&[u8]; 4] = [
+pub const ONE_FLAG: [&[u8]; 4] = [
     b"\x01\0\0\0\x01\0\0\0c\0K\0\0\0\x01\0\0\0\x1a\0\0\06\0\0\0\0\0\0\0\0\0\0\06\0\0\0\0\0\0\0\0\0\
     \0\0\0\0\0\0\0\0\0\0\x05\0\0\0com.a\0\0\0\0\0\0\0\0\0\0\0\0",
     b"\x01\0\0\0\x01\0\0\0c\x01G\0\0\0\x01\0\0\0\x1a\0\0\06\0\0\0\0\0\0\0\0\0\0\0\0\0\0\0\0\0\0\0\
@@ -17,7 +17,7 @@ const ONE_FLAG: [&[u8]; 4] = [
 ];
 
 /// The set of a container without flags.
-const NO_FLAGS: [&[u8]; 4] = [
+pub const NO_FLAGS: [&[u8]; 4] = [
     b"\x01\0\0\0\x01\0\0\0c\06\0\0\0\0\0\0\0\x1a\0\0\06\0\0\0\0\0\0\0\0\0\0\0\0\0\0\0\0\0\0\0\0\0\
     \0\0\0\0\0\0\0\0\0\0",
     b"\x01\0\0\0\x01\0\0\0c\x016\0\0\0\0\0\0\0\x1a\0\0\06\0\0\0\0\0\0\0\0\0\0\0\0\0\0\0\0\0\0\0\0\
@@ -26,7 +26,7 @@ const NO_FLAGS: [&[u8]; 4] = [
     b"\x01\0\0\0\x01\0\0\0c\x03\x16\0\0\0\0\0\0\0\x16\0\0\0",
 ];
 
-const NAMES: [&str; 4] = [
+pub const NAMES: [&str; 4] = [
     "img/package.map",
     "img/flag.map",
     "img/flag.val",
