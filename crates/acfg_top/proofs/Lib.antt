@@ -10,7 +10,10 @@ pub mod Lists
 pub mod Looking
 pub mod Merging
 pub mod OneOutcome
+pub mod Packages
 pub mod Putting
 pub mod Reading
 pub mod SomeOutcome
+pub mod Storing
+pub mod Strangers
 pub mod Telling

@@ -26,7 +26,7 @@ same_files [] first = refl
 same_files (file ∷ files) first = same_files files _
 
 -- a file that is written is one of the outputs
-among_writes : (files : List NewFile) (name : List ℕ) → IsNameAmong files name → Contains (map (λ (write : List ℕ × List ℕ). write.0) (writes_in files)) name
+pub among_writes : (files : List NewFile) (name : List ℕ) → IsNameAmong files name → Contains (map (λ (write : List ℕ × List ℕ). write.0) (writes_in files)) name
 among_writes [] name among = absurd (omega (arith, among.1.1))
 among_writes (file ∷ files) name (one, (zero, low, is), named) = (0, omega arith, sym (named ∙ ap (λ (file : NewFile). string_bytes file.name) (sym is)))
 among_writes (file ∷ files) name (one, (suc k, low, is), named) =

@@ -20,9 +20,10 @@ use Rattle.acfg_top.specs.Flags.{FlagsGives, fault_words, flag_line}
 use Rattle.acfg_top.specs.Outcome.{Outcome, Usage, Refused, Done}
 use Rattle.acfg_top.specs.Rehearsal.{RehearseGives}
 use Rattle.acfg_top.specs.Query.{judged, set_in}
-use Rattle.acfg_top.specs.Words.{Command, Flags, Rehearse, Query, Dump, CreateCache}
+use Rattle.acfg_top.specs.Words.{Command, Flags, Rehearse, Query, Dump, CreateCache, CreateStorage}
 use Rattle.acfg_top.proofs.Creating.{some_create_cache}
 use Rattle.acfg_top.proofs.Dumping.{some_dump}
+use Rattle.acfg_top.proofs.Storing.{some_create_storage}
 
 -- what a file gives that is read and doesn't compile
 fails : (name bytes : List ℕ) (file : DeclarationsFile) → Declares name bytes file → (number place : ℕ) (fault : DeclWhat) → FailsOwn file number place fault → (outcome : Outcome) × FlagsGives name (Some bytes) outcome
@@ -64,6 +65,7 @@ some_command (Rehearse script) files none = some_rehearsal script files (files s
 some_command (Query dir name flag) files none = none (judged dir name flag (set_in dir files), refl)
 some_command (Dump format filter names) files none = some_dump format filter names files (λ outcome given. none (outcome, given))
 some_command (CreateCache name container out names) files none = some_create_cache name container out names files (λ outcome given. none (outcome, given))
+some_command (CreateStorage container dir names) files none = some_create_storage container dir names files (λ outcome given. none (outcome, given))
 
 pub some_outcome : (words : List (List ℕ)) (files : Files) → Some_ ((outcome : Outcome) × Gives words files outcome)
 some_outcome words files none =

@@ -236,7 +236,7 @@ fn file_of(alloc: Global, dir: &str, file: FileType, bytes: &[u8]) -> Result<New
     ensures bytes { IfOk result (λ made. made.bytes.items ≡ bytes.now) }
 {
     let name = path_in(alloc, dir, file)?;
-    let bytes = bytes.to_vec(alloc)?;
+    let bytes = Vec::from_slice(alloc, bytes)?;
     Ok(NewFile { name, bytes })
 }
 
