@@ -1,8 +1,8 @@
 -- Words ask for one command.
-use Rattle.std.proofs.Common.{◌≡◌, ℕ, List, [], ◌∷◌, if◌then◌else◌, codes, sym, ◌∙◌, ap}
+use Rattle.std.proofs.Common.{◌≡◌, ℕ, List, [], ◌∷◌, if◌then◌else◌, codes, sym, ◌∙◌, ap, subst}
 use Rattle.std.specs.Prelude.{Option, None, Some}
 use Rattle.std.specs.Str.{bytes_eq}
-use Rattle.acfg_top.specs.Words.{Command, Flags, Rehearse, Query, Dump, CreateCache, CreateStorage, Asks}
+use Rattle.acfg_top.specs.Words.{ArePathWords, Command, Flags, Rehearse, Query, Dump, CreateCache, CreateStorage, Asks}
 
 flags_of : List (List ℕ) → Option Command
 flags_of (file ∷ []) = Some (Flags file)
@@ -54,3 +54,12 @@ back words (CreateStorage container dir caches) asks = ap asked_of asks.0
 
 pub asks_unique : (words : List (List ℕ)) (command other : Command) → Asks words command → Asks words other → command ≡ other
 asks_unique words command other asks also = let same : Some command ≡ Some other = sym (back words command asks) ∙ back words other also in cc
+
+-- `create-storage` and words behind it ask for nothing where the last of them aren't paths
+pub no_caches : (container dir : List ℕ) (caches : List (List ℕ)) → (ArePathWords caches → ⊥) → (asked : Command) → Asks (codes "create-storage" ∷ container ∷ dir ∷ caches) asked → ⊥
+unfolding asked_of named create_storage_of
+no_caches container dir caches none asked asks =
+    let words = codes "create-storage" ∷ container ∷ dir ∷ caches in
+    let same : Some (CreateStorage container dir caches) ≡ Some asked = back words asked asks in
+    let is : CreateStorage container dir caches ≡ asked = cc in
+    none ((subst (Asks words) (sym is) asks).3)

@@ -14,6 +14,9 @@ const ONE_STORED: &str = "stored 1 flags in 1 packages \
 const NONE_STORED: &str = "stored 0 flags in 0 packages \
     a061264fcf7e27cfef9684bb5ec7fb1ede4bac664dbf89ce4a6bc4f358694d21\n";
 
+const EIGHT_STORED: &str = "stored 8 flags in 3 packages \
+    5389442fc5385b77d10398156db85c1fb048f019e481c7a69c43d9be2a8126e0\n";
+
 /// Three caches, and a file that is none.
 const CACHES: [(&str, &[u8]); 4] = [
     ("one", ONE_FLAG),
@@ -232,7 +235,7 @@ fn packages_of_one_container(rt: HostRuntime) -> Result<(), Fail> {
     let asked = words(alloc, &["create-storage", "mockup", "m", "4", "1", "2"])?;
     assert_eq!(rt; run(alloc, &asked, &mut device), 0);
     let said = device.said().get(before..).unwrap_or(b"");
-    assert!(rt; said.starts_with(b"stored 8 flags in 3 packages "));
+    assert_eq!(rt; said, EIGHT_STORED.as_bytes());
     let packages = file_at(alloc, &mut device, "m/package.map");
     assert_eq!(rt; packages.len(), 209);
     assert!(rt;

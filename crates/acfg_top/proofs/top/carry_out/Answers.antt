@@ -24,3 +24,8 @@ pub returns-in-CreateCache-clause-broken : goal.returns-in-CreateCache-clause-br
 returns-in-CreateCache-clause-broken g c =
     subst (λ command. IsTrue g.D.Panel.tells → OnErr c.create_cache.result ((outcome : Outcome) → CommandGives (command_of command) (g.D.Panel.files c.args.dev.now) outcome
     → IsBroken g.D.Panel outcome c.args.dev.now c.create_cache.new.device)) (sym c.in-CreateCache.is) c.create_cache.ensures.broken
+
+pub returns-in-CreateStorage-clause-broken : goal.returns-in-CreateStorage-clause-broken
+returns-in-CreateStorage-clause-broken g c =
+    subst (λ command. IsTrue g.D.Panel.tells → OnErr c.create_storage.result ((outcome : Outcome) → CommandGives (command_of command) (g.D.Panel.files c.args.dev.now) outcome
+    → IsBroken g.D.Panel outcome c.args.dev.now c.create_storage.new.device)) (sym c.in-CreateStorage.is) c.create_storage.ensures.broken
