@@ -1,4 +1,4 @@
--- The outcome of `create-storage CONTAINER DIR CACHE..`: the merged flags of caches, written as a container's image set.
+-- The outcome of `create-storage CONTAINER DIR CACHE..`: the merged flags of caches, written as an image set.
 use Rattle.std.specs.Prelude.{◌≡◌, ◌≢◌, ◌⊎◌, ℕ, List, [], ◌∷◌, ◌++◌, All, Result, Ok, Err, Some, codes}
 use Rattle.std.specs.Prelude.{false, length, map, slice_get, take}
 use Rattle.std.specs.Fmt.{decimal}
