@@ -106,7 +106,7 @@ module _ (files : Files) (dir : List ℕ) (e : Entry) (valid : IsValidContainer 
 
   release_sound : (file : FileType) → IsSound files dir (recorded e) (Release e.release_slot file)
   release_sound = set_sound files (λ (file : FileType). path dir e.name (Release e.release_slot file)) purpose.Release release.set e.name e.container.release release.notes release.stand release.is_set
-      (IsItsRelease files dir (recorded e)) (λ opened name. record { name = name; digest = release.digest })
+      (IsItsRelease (recorded e)) (λ opened name. record { name = name; digest = release.digest })
 
   -- an overridden flag is read-write
   writable : (m : OverrideMap) → ((key : Key) (value : Bool) → get m key ≡ Some value → IsTrue (is_writable e.container.release key)) → (k : ℕ) (d : Listed) → k < length flags
@@ -264,7 +264,7 @@ held_whole files dir e valid holds =
 
 -- ---- the directory
 
-all_whole : (files : Files) (dir : List ℕ) (es : List Entry) → All (λ (e : Entry). IsValidContainer e.container) es → All (Holds files dir) es → All (IsWhole files dir) (map recorded es)
+pub all_whole : (files : Files) (dir : List ℕ) (es : List Entry) → All (λ (e : Entry). IsValidContainer e.container) es → All (Holds files dir) es → All (IsWhole files dir) (map recorded es)
 all_whole files dir [] valid held = All-nil (IsWhole files dir)
 all_whole files dir (e ∷ es) valid held =
     All-cons (IsWhole files dir) (recorded e) (map recorded es)

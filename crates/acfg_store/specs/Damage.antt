@@ -24,6 +24,7 @@ use Rattle.acfg_store.specs.declared.records.Recorded.{Recorded}
 use Rattle.acfg_store.specs.Names.{path}
 use Rattle.acfg_store.specs.Records.{SpellsLocals, SpellsRecords, bit, pointer_bytes}
 use Rattle.acfg_store.specs.Stands.{AreFiles, local_at}
+use Rattle.acfg_views.specs.Fields.{IsBytes}
 use Rattle.acfg_views.specs.Layout.{IsListFile, ListParts, flag_info_type, flag_val_type}
 use Rattle.sha2.specs.Sha256.{sha256}
 
@@ -99,6 +100,11 @@ pub record HasLocals (files : Files) (name : List ℕ) (flags : List Listed) : T
 
 -- ---- a container
 
+-- a release is the container's, and has the digest that is listed
+pub record IsItsRelease (row : Recorded) (set : four.Files) (opened : Opened) : Type 0 where
+  pub name : opened.package_map.container ≡ row.name
+  pub digest : row.digest ≡ sha256 (four.joined set)
+
 module _ (files : Files) (dir : List ℕ) (row : Recorded) where
   abbrev pub release_name : FileType → List ℕ
   release_name file = path dir row.name (Release row.release file)
@@ -108,11 +114,6 @@ module _ (files : Files) (dir : List ℕ) (row : Recorded) where
 
   abbrev pub boot_name : Slot → FileType → List ℕ
   boot_name slot file = path dir row.name (Boot slot file)
-
-  -- a release is the container's, and has the digest that is listed
-  pub record IsItsRelease (set : four.Files) (opened : Opened) : Type 0 where
-    pub name : opened.package_map.container ≡ row.name
-    pub digest : row.digest ≡ sha256 (four.joined set)
 
   -- the release's files list these flags
   pub record ListsFlags (flags : List Listed) : Type 0 where
@@ -126,7 +127,7 @@ module _ (files : Files) (dir : List ℕ) (row : Recorded) where
   abbrev pub IsSound : Part → Type 0
   IsSound Records = ⊤
   IsSound NewRecords = ⊤
-  IsSound (Release slot file) = IsSoundIn files release_name purpose.Release IsItsRelease file
+  IsSound (Release slot file) = IsSoundIn files release_name purpose.Release (IsItsRelease row) file
   IsSound (Override slot override.FlagVal) = (flags : List Listed) → ListsFlags flags
       → HasBytes files (override_path override.FlagVal) flag_val_type row.name IsValue flags
   IsSound (Override slot override.FlagInfo) = (flags : List Listed) → ListsFlags flags
@@ -168,6 +169,10 @@ abbrev pub IsWhole : Files → List ℕ → Recorded → Type 0
 IsWhole files dir row = All (IsSound files dir row) (parts_of row)
 
 -- ---- the directory
+
+-- what files hold are bytes
+abbrev pub HoldBytes : Files → Type 0
+HoldBytes files = (name held : List ℕ) → files name ≡ Some held → IsBytes held
 
 -- the list of containers is there, and is none
 pub record IsNoList (files : Files) (dir name : List ℕ) : Type 0 where

@@ -13,7 +13,7 @@ ghost use Rattle.acfg_model.specs.State.{State, name_cmp};
 ghost use Rattle.acfg_store.specs.declared.locals.LocalOverride.{LocalOverride};
 ghost use Rattle.acfg_store.specs.declared.records.Recorded.{Recorded};
 ghost use Rattle.acfg_store.specs.Commits.{ChangesOne, IsCommit, LeavesEither};
-ghost use Rattle.acfg_store.specs.Damage.{IsDamaged};
+ghost use Rattle.acfg_store.specs.Damage.{HoldBytes, IsDamaged};
 ghost use Rattle.acfg_store.specs.Names.{path, source_path};
 ghost use Rattle.acfg_store.specs.Records.{SpellsLocals, SpellsRecords};
 ghost use Rattle.acfg_store.specs.Stands.{Entry, IsUsed, Lies, Stands, Uses, entry_name};
@@ -57,6 +57,12 @@ pub fn one_damage()
     ensures one { (files : Files) (dir a b : List ℕ) → IsDamaged files dir a → IsDamaged files dir b → a ≡ b }
     ensures none { (files : Files) (dir : List ℕ) (state : State) (name : List ℕ) → Stands files dir state
         → IsDamaged files dir name → ⊥ }
+{}
+
+/// Where files stand for no state, there is a first file at fault.
+pub fn some_damage()
+    ensures { (files : Files) (dir : List ℕ) → HoldBytes files → ((state : State) → Stands files dir state → ⊥)
+        → ((name : List ℕ) → IsDamaged files dir name → ⊥) → ⊥ }
 {}
 
 /// A directory without a list of containers stands for the empty state.

@@ -1,24 +1,35 @@
 //! The device directory: which files it has, how they are spelled, and for which state they stand.
 #![tactic(auto)]
 
+mod boots;
+mod containers;
+mod faults;
 mod fields;
+mod gathering;
 mod laws;
 mod locals;
 mod names;
+mod opening;
 mod overrides;
 mod placed;
 mod pointer;
 mod records;
 mod rows;
+mod sets;
+mod slots;
+mod store;
+mod store_fault;
 
 pub use laws::{
     commits_leave_states, names_are_apart, nothing_stands, one_container_changes, one_damage,
-    one_reading, one_state, other_files_are_free, unused_names,
+    one_reading, one_state, other_files_are_free, some_damage, unused_names,
 };
 pub use locals::{LocalOverride, Locals, read_locals, write_locals};
 pub use names::{OverrideFile, Part, Slot, file_name};
 pub use pointer::{read_pointer, write_pointer};
 pub use records::{Recorded, Records, read_records, write_records};
+pub use store::Store;
+pub use store_fault::StoreFault;
 
 #[cfg(test)]
 mod tests;
