@@ -57,7 +57,7 @@ name_byte byte is = elim is [
   | inr point ↦ (λ e. absurd (omega arith), omega arith)
 ]
 
-names_word : (text : List ℕ) → AreNames text → IsWord text
+pub names_word : (text : List ℕ) → AreNames text → IsWord text
 names_word text names = record {
   whole = λ k d within. ne_eqb _ _ (λ e. (name_byte _ (names.bytes k within)).0 (get_or_default text k 0 d within ∙ e));
   text = IsUtf8-from_ascii text (IsAscii-from_reads text (length text) (omega arith) (λ k below. (name_byte _ (names.bytes k below)).1));

@@ -11,7 +11,7 @@ mod sources;
 mod tests;
 
 pub use fault::DaemonFault;
-pub use lines::script_of_lines;
+pub use lines::{script_of_lines, split_line};
 pub use rehearsal::{one_transcript, rehearse, some_transcript};
 pub use replies::reply_text;
 pub use requests::parse_request;

@@ -2,7 +2,7 @@
 use Rattle.std.proofs.Common.{◌≡◌, ℕ, List, [], ◌∷◌, if◌then◌else◌, codes, sym, ◌∙◌, ap, subst}
 use Rattle.std.specs.Prelude.{Option, None, Some}
 use Rattle.std.specs.Str.{bytes_eq}
-use Rattle.acfg_top.specs.Words.{ArePathWords, Command, Flags, Rehearse, Query, Dump, CreateCache, CreateStorage, Asks}
+use Rattle.acfg_top.specs.Words.{ArePathWords, Command, Flags, Rehearse, Query, Dump, CreateCache, CreateStorage, CreateAll, Asks}
 
 flags_of : List (List ℕ) → Option Command
 flags_of (file ∷ []) = Some (Flags file)
@@ -28,6 +28,10 @@ create_storage_of : List (List ℕ) → Option Command
 create_storage_of (container ∷ dir ∷ caches) = Some (CreateStorage container dir caches)
 create_storage_of _ = None
 
+create_all_of : List (List ℕ) → Option Command
+create_all_of (list ∷ []) = Some (CreateAll list)
+create_all_of _ = None
+
 -- the command of a name and more words
 named : List ℕ → List (List ℕ) → Option Command
 named name rest =
@@ -37,20 +41,22 @@ named name rest =
     else (if bytes_eq name (codes "dump") then dump_of rest
     else (if bytes_eq name (codes "create-cache") then create_cache_of rest
     else (if bytes_eq name (codes "create-storage") then create_storage_of rest
-    else None)))))
+    else (if bytes_eq name (codes "create-all") then create_all_of rest
+    else None))))))
 
 asked_of : List (List ℕ) → Option Command
 asked_of [] = None
 asked_of (name ∷ rest) = named name rest
 
 back : (words : List (List ℕ)) (command : Command) → Asks words command → asked_of words ≡ Some command
-unfolding asked_of named flags_of rehearse_of query_of dump_of create_cache_of create_storage_of
+unfolding asked_of named flags_of rehearse_of query_of dump_of create_cache_of create_storage_of create_all_of
 back words (Flags file) asks = ap asked_of asks.0
 back words (Rehearse script) asks = ap asked_of asks.0
 back words (Query dir name flag) asks = ap asked_of asks.0
 back words (Dump format filter files) asks = ap asked_of asks.0
 back words (CreateCache name container out files) asks = ap asked_of asks.0
 back words (CreateStorage container dir caches) asks = ap asked_of asks.0
+back words (CreateAll list) asks = ap asked_of asks.0
 
 pub asks_unique : (words : List (List ℕ)) (command other : Command) → Asks words command → Asks words other → command ≡ other
 asks_unique words command other asks also = let same : Some command ≡ Some other = sym (back words command asks) ∙ back words other also in cc

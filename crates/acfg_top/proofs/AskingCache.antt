@@ -1,7 +1,7 @@
 -- What `create-cache` and words behind it can ask for.
 use Rattle.std.proofs.Common.{◌≡◌, ℕ, Bool, true, false, List, [], ◌∷◌, codes, sym, ap, subst}
 use Rattle.std.specs.Str.{bytes_eq}
-use Rattle.acfg_top.specs.Words.{ArePathWords, Asks, Command, Flags, Rehearse, Query, Dump, CreateCache, CreateStorage}
+use Rattle.acfg_top.specs.Words.{ArePathWords, Asks, Command, Flags, Rehearse, Query, Dump, CreateCache, CreateStorage, CreateAll}
 
 is_cached : List (List ℕ) → Bool
 is_cached [] = false
@@ -21,3 +21,4 @@ no_files «package» container out files none (Query dir name flag) asks = let n
 no_files «package» container out files none (Dump format filter more) asks = let no : true ≡ false = ap is_cached asks.0 in cc
 no_files «package» container out files none (CreateCache name of at more) asks = none (subst ArePathWords (sym (ap behind asks.0)) asks.4)
 no_files «package» container out files none (CreateStorage of dir caches) asks = let no : true ≡ false = ap is_cached asks.0 in cc
+no_files «package» container out files none (CreateAll list) asks = let no : true ≡ false = ap is_cached asks.0 in cc

@@ -8,7 +8,7 @@ use Rattle.acfg_top.specs.declared.ending.Stop.{Stop}
 use Rattle.acfg_top.specs.declared.ending.Stop.TheVariants.{Failed, OutOfMemory}
 use Rattle.acfg_top.specs.Bodies.{status_of}
 use Rattle.acfg_top.specs.Commands.{Only}
-use Rattle.acfg_top.specs.Words.{Command, Flags, Rehearse, Query, Dump, CreateCache, CreateStorage}
+use Rattle.acfg_top.specs.Words.{Command, Flags, Rehearse, Query, Dump, CreateCache, CreateStorage, CreateAll}
 
 pub only_weaker : {P : Type 0} (panel : Ghosts P) (command : Command) (before after : P) {fails other : Type 0} → (other → fails) → Only panel command before after fails → Only panel command before after other
 only_weaker panel (Flags file) before after weaker only = record { files = only.files; names = only.names; pending = only.pending; words = only.words; count = only.count; failed = λ failed. only.failed (weaker failed) }
@@ -17,6 +17,7 @@ only_weaker panel (Query dir name flag) before after weaker only = record { file
 only_weaker panel (Dump format filter names) before after weaker only = record { files = only.files; names = only.names; pending = only.pending; words = only.words; count = only.count; failed = λ failed. only.failed (weaker failed) }
 only_weaker panel (CreateCache name container out names) before after weaker only = record { others = only.others; words = only.words; count = only.count; failed = λ failed. only.failed (weaker failed) }
 only_weaker panel (CreateStorage container dir names) before after weaker only = record { others = only.others; words = only.words; count = only.count; failed = λ failed. only.failed (weaker failed) }
+only_weaker panel (CreateAll list) before after weaker only = record { others = only.others; words = only.words; count = only.count; failed = λ failed. only.failed (weaker failed) }
 
 -- status 4 is that of a failure
 pub status_failed : (result : Result Ending Stop) (status : ℕ) → status ≡ status_of result → status ≡ 4 → result ≡ Err Failed

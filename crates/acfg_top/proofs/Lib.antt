@@ -4,11 +4,16 @@ pub mod AskingCache
 pub mod Caching
 pub mod Creating
 pub mod Dumping
+pub mod JobLines
+pub mod JobOutcome
+pub mod JobStores
+pub mod JobWords
 pub mod Judging
 pub mod Keeping
 pub mod Lists
 pub mod Looking
 pub mod Merging
+pub mod OneList
 pub mod OneOutcome
 pub mod Packages
 pub mod Putting

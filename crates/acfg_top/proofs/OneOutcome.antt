@@ -16,7 +16,7 @@ use Rattle.acfg_decls.specs.Compile.{CompilesOwn, FailsOwn}
 use Rattle.acfg_decls.specs.Reading.{Declares}
 use Rattle.acfg_decls.proofs.OneAnswer.{own_apart, own_fails_unique, own_unique}
 use Rattle.acfg_decls.proofs.Unique.{declares_unique, passes_apart, refuses_unique}
-use Rattle.acfg_top.specs.Words.{Command, Flags, Rehearse, Query, Dump, CreateCache, CreateStorage, Asks}
+use Rattle.acfg_top.specs.Words.{Command, Flags, Rehearse, Query, Dump, CreateCache, CreateStorage, CreateAll, Asks}
 use Rattle.acfg_top.specs.Commands.{CommandGives, Gives}
 use Rattle.acfg_top.specs.Flags.{FileFails, FlagsGives, fault_words, flag_line}
 use Rattle.acfg_top.specs.Outcome.{Outcome, Refused, Done}
@@ -24,6 +24,7 @@ use Rattle.acfg_top.specs.Rehearsal.{RehearseGives}
 use Rattle.acfg_top.proofs.Asking.{asks_unique}
 use Rattle.acfg_top.proofs.Creating.{create_cache_unique}
 use Rattle.acfg_top.proofs.Dumping.{dump_gives_unique}
+use Rattle.acfg_top.proofs.JobOutcome.{create_all_unique}
 use Rattle.acfg_top.proofs.Storing.{create_storage_unique}
 
 -- a fact that a test decides holds or fails
@@ -73,6 +74,7 @@ command_gives_unique (Query dir name flag) files a b gives also = gives ∙ sym 
 command_gives_unique (Dump format filter names) files a b gives also = dump_gives_unique format filter names files a b gives also
 command_gives_unique (CreateCache name container out names) files a b gives also = create_cache_unique name container out names files a b gives also
 command_gives_unique (CreateStorage container dir names) files a b gives also = create_storage_unique container dir names files a b gives also
+command_gives_unique (CreateAll list) files a b gives also = create_all_unique list files a b gives also
 
 pub gives_unique : (words : List (List ℕ)) (files : Files) (a b : Outcome) → Gives words files a → Gives words files b → a ≡ b
 gives_unique words files a b (inl (command, asks, gives)) (inl (other, asks_too, gives_too)) =

@@ -20,9 +20,10 @@ use Rattle.acfg_top.specs.Flags.{FlagsGives, fault_words, flag_line}
 use Rattle.acfg_top.specs.Outcome.{Outcome, Usage, Refused, Done}
 use Rattle.acfg_top.specs.Rehearsal.{RehearseGives}
 use Rattle.acfg_top.specs.Query.{judged, set_in}
-use Rattle.acfg_top.specs.Words.{Command, Flags, Rehearse, Query, Dump, CreateCache, CreateStorage}
+use Rattle.acfg_top.specs.Words.{Command, Flags, Rehearse, Query, Dump, CreateCache, CreateStorage, CreateAll}
 use Rattle.acfg_top.proofs.Creating.{some_create_cache}
 use Rattle.acfg_top.proofs.Dumping.{some_dump}
+use Rattle.acfg_top.proofs.JobOutcome.{some_create_all}
 use Rattle.acfg_top.proofs.Storing.{some_create_storage}
 
 -- what a file gives that is read and doesn't compile
@@ -66,6 +67,7 @@ some_command (Query dir name flag) files none = none (judged dir name flag (set_
 some_command (Dump format filter names) files none = some_dump format filter names files (λ outcome given. none (outcome, given))
 some_command (CreateCache name container out names) files none = some_create_cache name container out names files (λ outcome given. none (outcome, given))
 some_command (CreateStorage container dir names) files none = some_create_storage container dir names files (λ outcome given. none (outcome, given))
+some_command (CreateAll list) files none = some_create_all list files (λ outcome given. none (outcome, given))
 
 pub some_outcome : (words : List (List ℕ)) (files : Files) → Some_ ((outcome : Outcome) × Gives words files outcome)
 some_outcome words files none =

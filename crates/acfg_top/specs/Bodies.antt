@@ -34,7 +34,7 @@ use Rattle.acfg_top.specs.Flags.{fault_words}
 use Rattle.acfg_top.specs.Inputs.{Given}
 use Rattle.acfg_top.specs.Outcome.{Outcome, Usage, Refused, Done, IsDone, Writes, said_for, writes_of}
 use Rattle.acfg_top.specs.Query.{image_words}
-use Rattle.acfg_top.specs.Words.{Command, Flags, Rehearse, Query, Dump, CreateCache, CreateStorage}
+use Rattle.acfg_top.specs.Words.{Command, Flags, Rehearse, Query, Dump, CreateCache, CreateStorage, CreateAll}
 
 abbrev pub command_of : source.Command.Command → Command
 command_of (source.Command.TheVariants.Flags file) = Flags file.now
@@ -46,6 +46,7 @@ command_of (source.Command.TheVariants.CreateCache asked) =
     CreateCache asked.package.now asked.container.now asked.out.now (map string_bytes asked.files.now)
 command_of (source.Command.TheVariants.CreateStorage asked) =
     CreateStorage asked.container.now asked.dir.now (map string_bytes asked.caches.now)
+command_of (source.Command.TheVariants.CreateAll list) = CreateAll list.now
 
 -- the names that a command builds with are lawful
 abbrev pub HasNames : Command → Type 0
@@ -84,6 +85,7 @@ refusal_words (refusal.Cache fault) = cache_words fault
 refusal_words (refusal.Stranger position) = codes "wrong-container flag " ++ decimal position
 refusal_words (refusal.Clash name) = codes "clash " ++ name.now
 refusal_words (refusal.Limit fault) = limit_words fault
+refusal_words (refusal.BadLine number) = codes "bad-line " ++ decimal number
 
 -- files as a command writes them
 abbrev pub writes_in : List NewFile → Writes

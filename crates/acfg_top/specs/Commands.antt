@@ -3,6 +3,7 @@ use Rattle.std.specs.Prelude.{◌≡◌, ℕ, ◌⊎◌, List}
 use Rattle.acfg_device.specs.Only.{OnlySays}
 use Rattle.acfg_device.specs.Panel.{Files}
 use Rattle.acfg_device.specs.declared.panel.Panel.{Ghosts}
+use Rattle.acfg_top.specs.CreateAll.{CreateAllGives, IsStorageFile}
 use Rattle.acfg_top.specs.CreateCache.{CreateCacheGives}
 use Rattle.acfg_top.specs.CreateStorage.{CreateStorageGives, IsFileIn}
 use Rattle.acfg_top.specs.Dump.{DumpGives}
@@ -10,7 +11,7 @@ use Rattle.acfg_top.specs.Flags.{FlagsGives}
 use Rattle.acfg_top.specs.Outcome.{OnlyWrites, Outcome, Usage}
 use Rattle.acfg_top.specs.Query.{QueryGives}
 use Rattle.acfg_top.specs.Rehearsal.{RehearseGives}
-use Rattle.acfg_top.specs.Words.{Command, Flags, Rehearse, Query, Dump, CreateCache, CreateStorage, Asks}
+use Rattle.acfg_top.specs.Words.{Command, Flags, Rehearse, Query, Dump, CreateCache, CreateStorage, CreateAll, Asks}
 
 abbrev pub CommandGives : Command → Files → Outcome → Type 0
 CommandGives (Flags file) files outcome = FlagsGives file (files file) outcome
@@ -20,6 +21,7 @@ CommandGives (Dump format filter names) files outcome = DumpGives format filter 
 CommandGives (CreateCache name container out names) files outcome =
     CreateCacheGives name container out names files outcome
 CommandGives (CreateStorage container dir names) files outcome = CreateStorageGives container dir names files outcome
+CommandGives (CreateAll list) files outcome = CreateAllGives list files outcome
 
 -- The outcome of words on files: that of the command they ask for, and usage where they ask for none.
 abbrev pub Gives : List (List ℕ) → Files → Outcome → Type 0
@@ -37,3 +39,4 @@ Only panel (CreateCache name container out names) before after fails =
     OnlyWrites panel (λ other. other ≡ out) before after fails
 Only panel (CreateStorage container dir names) before after fails =
     OnlyWrites panel (IsFileIn dir) before after fails
+Only panel (CreateAll list) before after fails = OnlyWrites panel IsStorageFile before after fails

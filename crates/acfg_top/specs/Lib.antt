@@ -1,11 +1,14 @@
 pub mod Bodies
 pub mod Caches
 pub mod Commands
+pub mod CreateAll
 pub mod CreateCache
 pub mod CreateStorage
 pub mod Dump
 pub mod Flags
 pub mod Inputs
+pub mod JobBodies
+pub mod JobList
 pub mod Outcome
 pub mod Query
 pub mod Rehearsal

@@ -35,6 +35,8 @@ pub data Command : Type 0 where
   CreateCache : List ℕ → List ℕ → List ℕ → List (List ℕ) → Command
   -- `create-storage CONTAINER DIR CACHE..`
   CreateStorage : List ℕ → List ℕ → List (List ℕ) → Command
+  -- `create-all LIST`
+  CreateAll : List ℕ → Command
 
 abbrev pub Asks : List (List ℕ) → Command → Type 0
 Asks words (Flags file) = (words ≡ codes "flags" ∷ file ∷ []) × IsPathWord file
@@ -49,3 +51,4 @@ Asks words (CreateCache name container out files) =
 Asks words (CreateStorage container dir caches) =
     (words ≡ codes "create-storage" ∷ container ∷ dir ∷ caches) × IsContainer container × IsPathWord dir
     × ArePathWords caches
+Asks words (CreateAll list) = (words ≡ codes "create-all" ∷ list ∷ []) × IsPathWord list

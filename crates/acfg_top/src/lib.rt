@@ -5,6 +5,7 @@
 mod cache_tests;
 mod cache_words;
 mod caches;
+mod create_all;
 mod create_cache;
 mod create_storage;
 mod dump;
@@ -12,6 +13,9 @@ mod ending;
 mod flags;
 mod image_words;
 mod inputs;
+#[cfg(test)]
+mod job_tests;
+mod jobs;
 mod output;
 mod query;
 #[cfg(test)]
@@ -27,4 +31,5 @@ mod told;
 mod top;
 mod words;
 
+pub use jobs::one_list;
 pub use top::{one_outcome, run, some_outcome};

@@ -8,7 +8,7 @@ use acfg_memdev::MemDevice;
 use std::alloc::{AllocError, Global};
 use std::test::Fail;
 
-const ONE_STORED: &str = "stored 1 flags in 1 packages \
+pub const ONE_STORED: &str = "stored 1 flags in 1 packages \
     17f48a1c9cc934024731c25f7769e503180d6821c943ca36c34582807291c4e4\n";
 
 const NONE_STORED: &str = "stored 0 flags in 0 packages \

@@ -119,6 +119,8 @@ pub enum Refusal<'a> {
     Clash(&'a str),
     /// A limit that an image would pass.
     Limit(BuildFault),
+    /// The first bad line of a list of jobs, by its number from 1.
+    BadLine(usize),
 }
 
 impl fmt::Display for Refusal<'_> {
@@ -150,6 +152,7 @@ impl fmt::Display for Refusal<'_> {
                 let fault = PrintedLimit(*fault);
                 write!(f, "{fault}")
             }
+            Refusal::BadLine(number) => write!(f, "bad-line {number}"),
         }
     }
 }

@@ -8,6 +8,7 @@ ghost use Rattle.acfg_top.specs.Commands.{CommandGives, Gives, Only};
 ghost use Rattle.acfg_top.specs.Outcome.{Answers, IsBroken, IsDone, IsStatus, Outcome, Tells, Usage};
 ghost use Rattle.acfg_top.specs.Words.{Asks};
 
+use crate::create_all::create_all;
 use crate::create_cache::create_cache;
 use crate::create_storage::create_storage;
 use crate::dump::dump_caches;
@@ -100,6 +101,7 @@ fn carry_out<D: Device>(alloc: Global, command: Command<'_>, dev: &mut D) -> Res
         Command::Dump(asked) => dump_caches(alloc, asked, dev),
         Command::CreateCache(asked) => create_cache(alloc, asked, dev),
         Command::CreateStorage(asked) => create_storage(alloc, asked, dev),
+        Command::CreateAll(list) => create_all(alloc, list, dev),
     }
 }
 

@@ -22,6 +22,8 @@ pub enum Command<'a> {
     CreateCache(CacheWords<'a>),
     /// `create-storage CONTAINER DIR CACHE..`
     CreateStorage(StorageWords<'a>),
+    /// `create-all LIST`
+    CreateAll(&'a str),
 }
 
 /// A flag as words name it: lawful names of a package and of a flag.
@@ -85,6 +87,9 @@ fn read_with_path<'a>(name: &str, path: &'a str) -> Option<Command<'a>>
     }
     if name == "rehearse" {
         return Some(Command::Rehearse(path));
+    }
+    if name == "create-all" {
+        return Some(Command::CreateAll(path));
     }
     None
 }

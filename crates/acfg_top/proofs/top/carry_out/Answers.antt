@@ -25,7 +25,22 @@ returns-in-CreateCache-clause-broken g c =
     subst (λ command. IsTrue g.D.Panel.tells → OnErr c.create_cache.result ((outcome : Outcome) → CommandGives (command_of command) (g.D.Panel.files c.args.dev.now) outcome
     → IsBroken g.D.Panel outcome c.args.dev.now c.create_cache.new.device)) (sym c.in-CreateCache.is) c.create_cache.ensures.broken
 
+pub returns-in-CreateStorage-clause-told : goal.returns-in-CreateStorage-clause-told
+returns-in-CreateStorage-clause-told g c =
+    subst (λ command. IsTrue g.D.Panel.tells → IfOk c.create_storage.result (λ ending. Comes g.D.Panel (CommandGives (command_of command) (g.D.Panel.files c.args.dev.now)) ending
+    c.args.dev.now c.create_storage.new.device)) (sym c.in-CreateStorage.is) c.create_storage.ensures.told
+
 pub returns-in-CreateStorage-clause-broken : goal.returns-in-CreateStorage-clause-broken
 returns-in-CreateStorage-clause-broken g c =
     subst (λ command. IsTrue g.D.Panel.tells → OnErr c.create_storage.result ((outcome : Outcome) → CommandGives (command_of command) (g.D.Panel.files c.args.dev.now) outcome
     → IsBroken g.D.Panel outcome c.args.dev.now c.create_storage.new.device)) (sym c.in-CreateStorage.is) c.create_storage.ensures.broken
+
+pub returns-in-CreateAll-clause-told : goal.returns-in-CreateAll-clause-told
+returns-in-CreateAll-clause-told g c =
+    subst (λ command. IsTrue g.D.Panel.tells → IfOk c.create_all.result (λ ending. Comes g.D.Panel (CommandGives (command_of command) (g.D.Panel.files c.args.dev.now)) ending
+    c.args.dev.now c.create_all.new.device)) (sym c.in-CreateAll.is) c.create_all.ensures.told
+
+pub returns-in-CreateAll-clause-broken : goal.returns-in-CreateAll-clause-broken
+returns-in-CreateAll-clause-broken g c =
+    subst (λ command. IsTrue g.D.Panel.tells → OnErr c.create_all.result ((outcome : Outcome) → CommandGives (command_of command) (g.D.Panel.files c.args.dev.now) outcome
+    → IsBroken g.D.Panel outcome c.args.dev.now c.create_all.new.device)) (sym c.in-CreateAll.is) c.create_all.ensures.broken
