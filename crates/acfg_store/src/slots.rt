@@ -5,7 +5,8 @@ ghost use Rattle.acfg_store.specs.declared.names.OverrideFile.TheVariants as ove
 ghost use Rattle.acfg_store.specs.Damage.{IsFirst};
 ghost use Rattle.acfg_store.specs.Found.{Finds};
 ghost use Rattle.acfg_store.specs.Judged.{Judges};
-ghost use Rattle.acfg_store.specs.Over.{AreBytesIn, AreOverrides, HasInfos, HasLocalsOver, HasValues, IsSoundOver, read_over};
+ghost use Rattle.acfg_store.specs.Over.{AreBytesIn, AreOverrides, HasInfos, HasLocalsOver, HasValues, IsSoundOver};
+ghost use Rattle.acfg_store.specs.Over.{read_over};
 ghost use Rattle.acfg_store.specs.Over.{three_files};
 ghost use Rattle.acfg_views.specs.Fields.{IsBytes};
 ghost use Rattle.acfg_views.specs.Layout.{flag_info_type, flag_val_type};
@@ -60,7 +61,8 @@ fn values_in<'a>(
     flags: &[Placed],
 ) -> Option<Values<'a>>
     requires { All (λ row. row.found.index < count) flags.now }
-    ensures found { Finds (HasValues container.now count flags.now (option_map (λ bytes. bytes.items) read.now)) result }
+    ensures found { Finds (HasValues container.now count flags.now (option_map (λ bytes. bytes.items) read.now))
+        result }
     ensures open { IfSome result (IsOpenList flag_val_type) }
 {
     match read {
@@ -84,8 +86,8 @@ fn infos_in<'a>(
 ) -> Option<Infos<'a>>
     requires count { values.now.count ≡ count }
     requires within { All (λ row. row.found.index < count) flags.now }
-    ensures found { Finds (HasInfos container.now count flags.now (option_map (λ bytes. bytes.items) read.now) values.now)
-        result }
+    ensures found { Finds (HasInfos container.now count flags.now (option_map (λ bytes. bytes.items) read.now)
+        values.now) result }
     ensures open { IfSome result (IsOpenList flag_info_type) }
 {
     match read {
@@ -172,7 +174,8 @@ fn judge_locals(
     requires within { All (λ row. row.found.index < count) flags.items }
     requires values { HasValues container.now count flags.items (read_over read.now override.FlagVal) values.now }
     requires values_open { IsOpenList flag_val_type values.now }
-    requires infos { HasInfos container.now count flags.items (read_over read.now override.FlagInfo) values.now infos.now }
+    requires infos { HasInfos container.now count flags.items (read_over read.now override.FlagInfo) values.now
+        infos.now }
     requires infos_open { IsOpenList flag_info_type infos.now }
     ensures { Judges (λ rows. AreOverrides container.now count flags.items (read_over read.now) rows.items)
         (IsFirst (IsSoundOver container.now count flags.items (read_over read.now)) three_files) result }

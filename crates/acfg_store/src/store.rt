@@ -56,8 +56,8 @@ impl Store {
     ///
     /// # Errors
     ///
-    /// `Damaged` with the name of the first file at fault, exactly where the files stand for no state. `Device` where the
-    /// outside failed, and `OutOfMemory` where an allocation was refused.
+    /// `Damaged` with the name of the first file at fault, exactly where the files stand for no state. `Device` where
+    /// the outside failed, and `OutOfMemory` where an allocation was refused.
     pub fn open<D: Device>(alloc: Global, device: &mut D, dir: &str) -> Result<Store, StoreFault>
         ensures dir { IfOk result (λ store. store.dir ≡ dir.now) }
         ensures lies { IsTrue D.tells → IfOk result (λ store. IsLayout (D.files device.old) dir.now store.entries) }
