@@ -5,7 +5,7 @@
 # an fsync of the host.
 #
 # usage: bench/host-calls.sh PROGRAM WORD..     wants strace; run it in a folder that may be written to
-# `create-cache` is the command that writes a file; any program that is built on acfg_hostdev may be given.
+# `create-cache`, `create-storage` and `create-all` write files; any program that is built on acfg_hostdev may be given.
 set -eu
 calls=$(mktemp)
 trap 'rm -f "$calls"' EXIT
