@@ -213,23 +213,33 @@ fn a_set_is_whole_before_a_word_is_said(rt: HostRuntime) -> Result<(), Fail> {
     Ok(())
 }
 
+// The status of `create-cache` for one of the three packages.
+fn cached(alloc: Global, device: &mut MemDevice, end: &str) -> Result<u8, Fail> {
+    let package = format!(in alloc; "com.android.aconfig.storage.test_{end}")?;
+    let source = format!(in alloc; "{end}.aconfig")?;
+    let asked = cache_words(alloc, package.as_str(), end, source.as_str())?;
+    Ok(run(alloc, &asked, device))
+}
+
+// The words of `create-cache` for it.
+fn cache_words(
+    alloc: Global,
+    package: &str,
+    out: &str,
+    source: &str,
+) -> Result<Vec<String>, AllocError> {
+    words(
+        alloc,
+        &["create-cache", package, "mockup", out, source, "values"],
+    )
+}
+
 #[test]
 fn packages_of_one_container(rt: HostRuntime) -> Result<(), Fail> {
     let alloc = rt.alloc();
     let mut device = declared(alloc)?;
     for (end, _) in DECLARED {
-        let package = format!(in alloc; "com.android.aconfig.storage.test_{end}")?;
-        let source = format!(in alloc; "{end}.aconfig")?;
-        let texts = [
-            "create-cache",
-            package.as_str(),
-            "mockup",
-            end,
-            source.as_str(),
-            "values",
-        ];
-        let asked = words(alloc, &texts)?;
-        assert_eq!(rt; run(alloc, &asked, &mut device), 0, "for {end}");
+        assert_eq!(rt; cached(alloc, &mut device, end)?, 0, "for {end}");
     }
     let before = device.said().len();
     let asked = words(alloc, &["create-storage", "mockup", "m", "4", "1", "2"])?;
