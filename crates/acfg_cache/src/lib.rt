@@ -15,8 +15,6 @@ mod merging;
 mod parts;
 mod same;
 mod table;
-#[cfg(test)]
-mod tests;
 
 pub use decoding::decode;
 pub use encoding::encode;

@@ -7,8 +7,6 @@ mod rehearsal;
 mod replies;
 mod requests;
 mod sources;
-#[cfg(test)]
-mod tests;
 
 pub use fault::DaemonFault;
 pub use lines::{script_of_lines, split_line};

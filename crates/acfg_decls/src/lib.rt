@@ -15,8 +15,6 @@ mod own;
 mod reading;
 mod scalars;
 mod setting;
-#[cfg(test)]
-mod tests;
 mod walk;
 
 pub use compiling::{MOST_FLAGS, compile};

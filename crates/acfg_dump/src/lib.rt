@@ -8,8 +8,6 @@ mod filter;
 mod laws;
 mod parts;
 mod template;
-#[cfg(test)]
-mod tests;
 mod values;
 
 pub use conditions::{Condition, Fact, Key};

@@ -13,8 +13,6 @@ mod files;
 mod flags;
 mod groups;
 mod packages;
-#[cfg(test)]
-mod tests;
 
 use crate::set::ImageSet;
 use acfg_base::ContainerName;

@@ -47,8 +47,8 @@ impl<'a> Checked<'a> {
         self.set
     }
 
-    // The files are open, as each view tells.
-    pub(crate) fn are_open(&self)
+    /// Tells that each of the four files is open as its view shows it; does nothing else.
+    pub fn are_open(&self)
         ensures { AreOpenFiles self.now }
     {
         let _buckets = self.views.package_map.buckets();

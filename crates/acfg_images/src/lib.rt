@@ -35,6 +35,3 @@ pub use purpose::Use;
 pub use releases::flags_of;
 pub use restamping::restamp;
 pub use set::ImageSet;
-
-#[cfg(test)]
-mod tests;

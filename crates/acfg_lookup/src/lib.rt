@@ -12,6 +12,3 @@ mod packages;
 pub use flags::find_flag;
 pub use found::{Found, PackageAt};
 pub use packages::find_package;
-
-#[cfg(test)]
-mod tests;

@@ -13,6 +13,3 @@ pub use machines::Machine;
 pub use refusals::Refusal;
 pub use requests::{Loaded, Reply, Request};
 pub use views::{BootCopy, Booted, ContainerState, Override, Overrides, State};
-
-#[cfg(test)]
-mod tests;

@@ -30,6 +30,3 @@ pub use pointer::{read_pointer, write_pointer};
 pub use records::{Recorded, Records, read_records, write_records};
 pub use store::Store;
 pub use store_fault::StoreFault;
-
-#[cfg(test)]
-mod tests;

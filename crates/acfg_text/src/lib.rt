@@ -22,6 +22,3 @@ pub use printer::{print_tree, printed_again};
 pub use token::{Token, TokenKind};
 pub use tree::{Item, Tree, Value};
 pub use trees::{one_lexing, one_tree, read_tree};
-
-#[cfg(test)]
-mod examples;

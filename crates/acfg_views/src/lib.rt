@@ -21,6 +21,3 @@ pub use lists::{Infos, Values};
 pub use nodes::{FlagNode, PackageNode};
 pub use package_map::PackageMap;
 pub use steps::Steps;
-
-#[cfg(test)]
-mod tests;

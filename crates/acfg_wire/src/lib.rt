@@ -16,6 +16,3 @@ pub use field::{Field, FieldValue, MAX_FIELD_NUMBER};
 pub use laws::{fields_join, laid_out, one_outcome, put_is_read, shortest_is_least};
 pub use reading::read_fields;
 pub use writing::{put_bytes, put_varint};
-
-#[cfg(test)]
-mod tests;

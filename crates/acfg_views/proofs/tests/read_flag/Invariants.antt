@@ -1,4 +1,0 @@
-use Rattle.acfg_views.proofs.tests.read_flag.Given as goal
-
-abbrev pub ghosts-flag_at : goal.ghosts-flag_at
-ghosts-flag_at a = record { name = a.blank.name; parts = a.blank.parts }
