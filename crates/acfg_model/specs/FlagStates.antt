@@ -1,4 +1,4 @@
--- Private: how a container is kept, as the states of the flags of its release, in order.
+-- The flags of a release with their overrides, as rows in order: how a container is kept, and how it changes.
 use Rattle.std.specs.Prelude.{◌≡◌, ℕ, Bool, List, Option, None, Some, Result, Ok, Err, MatchResult}
 use Rattle.std.specs.Prelude.{if◌then◌else◌, is_some, unwrap_or, option_and_then}
 use Rattle.std.specs.FinMap.{get}

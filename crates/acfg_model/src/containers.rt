@@ -3,7 +3,7 @@
 ghost use Rattle.std.specs.Prelude.{◌≡◌, IfOk, OnOk, OnErr, map, option_map};
 ghost use Rattle.acfg_base.specs.Places.{AreInOrder, map_where};
 ghost use Rattle.acfg_base.specs.Release.{key_cmp, entries_of, HasLawfulKeys};
-ghost use Rattle.acfg_model.specs.FlagStates.{row_key, release_in, booted_row, carried_row, changed_row, override_in};
+ghost use Rattle.acfg_model.specs.FlagStates.{row_key, release_in, server_in, local_in, booted_row, carried_row, changed_row, override_in};
 ghost use Rattle.acfg_model.specs.FlagStates.{IsChangeable, IsLawful, IsOutcome, IsSettable, IsUnsettable};
 ghost use Rattle.acfg_model.specs.FlagStates.{container_in};
 ghost use Rattle.acfg_model.specs.State.{IsDigest, IsValidContainer};
@@ -44,6 +44,17 @@ impl FlagRow for FlagState {
 }
 
 impl FlagState {
+    /// The server's override and the local one, as a change of the flag makes them.
+    pub fn changed(&self, change: &Change<'_>) -> (Option<bool>, Option<bool>)
+        ensures { result ≡ ((changed_row change.now self.now).server, (changed_row change.now self.now).local) }
+    {
+        match change {
+            Change::SetServer(_, value) => (Some(*value), self.local),
+            Change::SetLocal(_, value) => (self.server, Some(*value)),
+            Change::UnsetLocal(_) => (self.server, None),
+        }
+    }
+
     // Takes a change of the flag.
     fn take(&mut self, change: &Change<'_>)
         ensures { self.new ≡ changed_row change.now self.old }
@@ -124,12 +135,23 @@ impl Model for Container {
 }
 
 impl Container {
+    /// The flags of the release with their overrides, in order of package bytes, then flag bytes. It takes no memory.
+    pub fn rows(&self) -> &[FlagState]
+        ensures order { AreInOrder key_cmp row_key result.now }
+        ensures release { self.now.release ≡ release_in result.now }
+        ensures server { self.now.server ≡ server_in result.now }
+        ensures local { self.now.local ≡ local_in result.now }
+        ensures valid { IsValidContainer self.now }
+    {
+        self.rows.as_slice()
+    }
+
     /// Changes the overrides, unless the change is refused.
     pub fn change(&mut self, change: &Change<'_>) -> Result<(), Refusal>
         ensures outcome { IsOutcome (with_change self.old change.now) result self.old self.new }
         ensures valid { IsValidContainer self.new }
     {
-        match changeable(&self.rows, change) {
+        match place_of_change(&self.rows, change) {
             Ok(at) => {
                 let row = &mut self.rows[at];
                 row.take(change);
@@ -295,8 +317,8 @@ fn rows_of(alloc: Global, release: Release, old: &[FlagState]) -> Result<Vec<Fla
         .collect(alloc)
 }
 
-// Where the flag of a change stands, or why the change is refused.
-fn changeable(rows: &[FlagState], change: &Change<'_>) -> Result<usize, Refusal>
+/// Where the flag of a change stands among rows in order, or why the change is refused. It takes no memory.
+pub fn place_of_change(rows: &[FlagState], change: &Change<'_>) -> Result<usize, Refusal>
     requires { AreInOrder key_cmp row_key rows.now }
     ensures { IsChangeable rows.now change.now result }
 {

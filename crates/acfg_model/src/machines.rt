@@ -3,7 +3,7 @@
 ghost use Rattle.std.specs.Prelude.{◌≡◌, ◌<◌, ◌^◌, None, IfOk, OnErr, map};
 ghost use Rattle.std.specs.Option.{ForSome};
 ghost use Rattle.std.specs.FinMap.{empty, get, len};
-ghost use Rattle.acfg_base.specs.Places.{AreInOrder, IsPlace};
+ghost use Rattle.acfg_base.specs.Places.{AreInOrder};
 ghost use Rattle.acfg_model.specs.State.{IsValid, name_cmp};
 ghost use Rattle.acfg_model.specs.Step.{IsLoadedFor, IsRefused, Fits, booted_value, boot_map, change_step, get_reply};
 ghost use Rattle.acfg_model.specs.Step.{release_step, step, update_step};
@@ -12,6 +12,7 @@ ghost use Rattle.acfg_model.specs.Machines.{kept_name, state_of, booted_named, r
 
 use crate::changes::{Change, FlagKey};
 use crate::containers::Container;
+use crate::names::{ContainerRow, place_of};
 use crate::refusals::Refusal;
 use crate::requests::{Loaded, Reply, Request};
 use crate::views::{BootCopy, State};
@@ -33,6 +34,16 @@ pub struct NamedContainer {
 #[derive(Debug, Drop)]
 pub struct Machine {
     containers: Vec<NamedContainer>,
+}
+
+impl ContainerRow for NamedContainer {
+    ghost use Rattle.acfg_model.specs.Machines.{kept_name};
+
+    ghost name_key = { kept_name };
+
+    fn name(&self) -> &str {
+        self.name.as_str()
+    }
 }
 
 impl Model for Machine {
@@ -294,12 +305,4 @@ fn reply(outcome: Result<(), Refusal>) -> Reply
         Ok(()) => Reply::Fine,
         Err(refusal) => Reply::Refused(refusal.number()),
     }
-}
-
-// Where a container stands among containers in order, or where it would stand.
-fn place_of(containers: &[NamedContainer], name: &str) -> Result<usize, usize>
-    requires { AreInOrder name_cmp kept_name containers.now }
-    ensures { IsPlace name_cmp kept_name containers.now name.now result }
-{
-    containers.binary_search_by(|named| named.name.as_str().cmp(&name))
 }
