@@ -66,8 +66,14 @@ fn spellings() -> [(&'static str, &'static str); 38] {
         ("update c.d /data/\u{e9}/-x", "Update, c.d, /data/\u{e9}/-x"),
         ("server c com.a f true", "Server, c, com.a, f, true"),
         ("server c com.a f false", "Server, c, com.a, f, false"),
-        ("local c com.a.b f_1 true", "Local, c, com.a.b, f_1, true, false"),
-        ("local-now c com.a f false", "Local, c, com.a, f, false, true"),
+        (
+            "local c com.a.b f_1 true",
+            "Local, c, com.a.b, f_1, true, false",
+        ),
+        (
+            "local-now c com.a f false",
+            "Local, c, com.a, f, false, true",
+        ),
         ("unset c com.a f", "Unset, c, com.a, f, false"),
         ("unset-now c com.a f", "Unset, c, com.a, f, true"),
         ("boot", "Boot"),

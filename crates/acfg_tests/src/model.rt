@@ -1,8 +1,8 @@
 ghost use Rattle.std.specs.Prelude.{IfOk, None};
 ghost use Rattle.acfg_model.specs.Step.{Fits, IsLoadedFor};
 
-use acfg_model::{Loaded, Machine, Reply, Request};
 use acfg_base::{ContainerName, Entry, Kind, Name, OutOfMemory, PackageName, Release, Text};
+use acfg_model::{Loaded, Machine, Reply, Request};
 use std::alloc::{AllocError, Global};
 use std::process::Abort;
 use std::test::Fail;
