@@ -3,7 +3,7 @@
 ghost use Rattle.std.specs.Prelude.{◌≡◌, ◌<◌, ◌^◌, None, IfOk, OnErr, map};
 ghost use Rattle.std.specs.Option.{ForSome};
 ghost use Rattle.std.specs.FinMap.{empty, get, len};
-ghost use Rattle.acfg_base.specs.Places.{AreInOrder, IsPlace};
+ghost use Rattle.acfg_base.specs.Places.{AreInOrder};
 ghost use Rattle.acfg_model.specs.State.{IsValid, name_cmp};
 ghost use Rattle.acfg_model.specs.Step.{IsLoadedFor, IsRefused, Fits, booted_value, boot_map, change_step, get_reply};
 ghost use Rattle.acfg_model.specs.Step.{release_step, step, update_step};
@@ -12,6 +12,7 @@ ghost use Rattle.acfg_model.specs.Machines.{kept_name, state_of, booted_named, r
 
 use crate::changes::{Change, FlagKey};
 use crate::containers::Container;
+use crate::names::{ContainerRow, place_of};
 use crate::refusals::Refusal;
 use crate::requests::{Loaded, Reply, Request};
 use crate::views::{BootCopy, State};
@@ -33,6 +34,16 @@ pub struct NamedContainer {
 #[derive(Debug, Drop)]
 pub struct Machine {
     containers: Vec<NamedContainer>,
+}
+
+impl ContainerRow for NamedContainer {
+    ghost use Rattle.acfg_model.specs.Machines.{kept_name};
+
+    ghost name_key = { kept_name };
+
+    fn name(&self) -> &str {
+        self.name.as_str()
+    }
 }
 
 impl Model for Machine {
@@ -84,13 +95,13 @@ impl Machine {
         Ok(shown(alloc, &self.containers)?)
     }
 
-    fn change(&mut self, name: &str, change: &Change<'_>) -> Reply
-        ensures { change_step self.old name.now change.now ≡ (self.new, result) }
+    fn change(&mut self, name: &str, change: &Change<'_>, now: bool) -> Reply
+        ensures { change_step now self.old name.now change.now ≡ (self.new, result) }
     {
         match place_of(&self.containers, name) {
             Ok(at) => {
                 let named = &mut self.containers[at];
-                reply(named.container.change(change))
+                reply(named.container.change_for(change, now))
             }
             Err(_) => Reply::Refused(Refusal::UnknownContainer.number()),
         }
@@ -197,27 +208,29 @@ impl Machine {
                     FlagKey::new(package.as_str(), flag.as_str()),
                     *value,
                 );
-                Ok(self.change(container.as_str(), &change))
+                Ok(self.change(container.as_str(), &change, false))
             }
             Request::Local {
                 container,
                 package,
                 flag,
                 value,
+                now,
             } => {
                 let change = Change::SetLocal(
                     FlagKey::new(package.as_str(), flag.as_str()),
                     *value,
                 );
-                Ok(self.change(container.as_str(), &change))
+                Ok(self.change(container.as_str(), &change, *now))
             }
             Request::Unset {
                 container,
                 package,
                 flag,
+                now,
             } => {
                 let change = Change::UnsetLocal(FlagKey::new(package.as_str(), flag.as_str()));
-                Ok(self.change(container.as_str(), &change))
+                Ok(self.change(container.as_str(), &change, *now))
             }
             Request::Boot => self.boot(alloc),
             Request::Get {
@@ -294,12 +307,4 @@ fn reply(outcome: Result<(), Refusal>) -> Reply
         Ok(()) => Reply::Fine,
         Err(refusal) => Reply::Refused(refusal.number()),
     }
-}
-
-// Where a container stands among containers in order, or where it would stand.
-fn place_of(containers: &[NamedContainer], name: &str) -> Result<usize, usize>
-    requires { AreInOrder name_cmp kept_name containers.now }
-    ensures { IsPlace name_cmp kept_name containers.now name.now result }
-{
-    containers.binary_search_by(|named| named.name.as_str().cmp(&name))
 }

@@ -4,7 +4,7 @@ use Rattle.std.specs.Prelude.{All, IsTrue}
 use Rattle.std.specs.FinMap.{get}
 use Rattle.std.proofs.lemmas.List.{length-drop}
 use Rattle.acfg_base.specs.Places.{AreInOrder}
-use Rattle.acfg_base.specs.Release.{HasLawfulKeys, IsKey, Key, key_cmp}
+use Rattle.acfg_base.specs.Release.{HasLawfulKeys, IsKey, Key, ReleaseMap, key_cmp}
 use Rattle.acfg_device.specs.Panel.{Files}
 use Rattle.acfg_images.specs.declared.purpose.Use.TheVariants as purpose
 use Rattle.acfg_images.specs.Faults.{parts_in}
@@ -13,7 +13,7 @@ use Rattle.acfg_images.specs.Set.{IsSet, SetParts, listing, notes_in}
 use Rattle.acfg_images.proofs.Law.{has_count}
 use Rattle.acfg_model.specs.declared.containers.FlagState.{FlagState}
 use Rattle.acfg_model.specs.declared.views.Booted.{Booted}
-use Rattle.acfg_model.specs.FlagStates.{IsLawful, container_in, row_key}
+use Rattle.acfg_model.specs.FlagStates.{IsLawful, container_in, release_in, row_key}
 use Rattle.acfg_model.specs.State.{BootMap, BootedFlag, Container, IsDigest, IsValidContainer}
 use Rattle.acfg_model.specs.State as model
 use Rattle.acfg_model.specs.Views.{boot_of}
@@ -26,8 +26,9 @@ use Rattle.acfg_store.specs.declared.records.Recorded.{Recorded}
 use Rattle.acfg_store.specs.Copies.{IsCopyOf}
 use Rattle.acfg_store.specs.Damage.{release_name}
 use Rattle.acfg_store.specs.Gathered.{AreOverridesRead, IsBootRead}
-use Rattle.acfg_store.specs.Kept.{AreRowsOf, IsMadeWhere, RowsStand}
+use Rattle.acfg_store.specs.Kept.{AreIndexesOf, AreRowsOf, IsMadeWhere, RowsStand}
 use Rattle.acfg_store.specs.Placed.{IsListOver, boot_row, state_row}
+use Rattle.acfg_store.specs.Sets.{AreSetsOf, IsBootSet, Sets}
 use Rattle.acfg_store.specs.Stands.{AreFiles, Booted as IsBooted, Entry, Holds, HoldsOverrides, HoldsRelease, boot_notes, boot_release}
 use Rattle.acfg_store.proofs.Holding.{boot_keys, boot_noted, boot_notes_same, boot_release_same, copy_noted, infos_same, local_writable, locals_same, release_same, rows_in_order, server_writable, values_same}
 use Rattle.acfg_views.specs.Fields.{IsBytes}
@@ -170,15 +171,27 @@ module _ (row : Recorded) (set : four.Files) (held : OverrideFile → Option (Li
     rows_held = subst (λ (rows : List FlagState). Holds files dir (entry_with rows)) (sym of.over.rows_are) (record { release = release_held; overrides = overrides_held; boot = booted })
 
 -- a container that is made of these rows lies in each directory where they stand
-pub kept_made : (row : Recorded) (set : four.Files) (rows : List FlagState) (read : BootFiles) (kept : Kept) (boot_slot : Option Slot) (boot : Option BootMap) → IsDigest row.digest → IsBootValid boot
+pub kept_made : (row : Recorded) (set : four.Files) (rows : List FlagState) (read : BootFiles) (kept : Kept) (boot_slot : Option Slot) (boot : Option BootMap) (boot_set : Option four.Files) → IsDigest row.digest → IsBootValid boot
     → (held : OverrideFile → Option (List ℕ)) → AreRowsOf row set held rows
     → ((files : Files) (dir : List ℕ) → IsBootRead files dir row read → IsBooted files dir row.name boot_slot boot)
+    → ((files : Files) (dir : List ℕ) → IsBootRead files dir row read → IsBootSet files dir row.name boot_slot boot_set)
     → kept.name ≡ row.name → kept.release_slot ≡ row.release → kept.override_slot ≡ row.overrides → option_map (λ b. b.slot) kept.boot ≡ boot_slot
-    → kept.container ≡ container_in row.digest rows boot → IsMadeWhere row (RowsStand row set rows read) kept
-kept_made row set rows read kept boot_slot boot digest boot_valid held of booted n r o b c = record {
+    → kept.container ≡ container_in row.digest rows boot → kept.release ≡ set → option_map (λ b. b.set) kept.boot ≡ boot_set → AreIndexesOf set (release_in rows) kept.indexes.items
+    → IsMadeWhere row (RowsStand row set rows read) kept
+kept_made row set rows read kept boot_slot boot boot_set digest boot_valid held of booted stands n r o b c s t indexes = record {
   listed = λ i. record { name = n i; release = r i; overrides = o i; digest = (c i).digest };
   valid = subst IsValidContainer (sym c) (rows_valid row set held rows of digest boot boot_valid);
+  indexed = subst (λ (both : four.Files × ReleaseMap). AreIndexesOf both.0 both.1 kept.indexes.items) (λ i. (sym s i, (sym c i).release)) indexes;
   holds = λ files dir given.
       subst (Holds files dir) (λ i. record { name = sym n i; release_slot = sym r i; override_slot = sym o i; boot_slot = sym b i; container = sym c i })
       (rows_held row set given.held rows given.of files dir given.stand given.overrides boot_slot boot (booted files dir given.booted));
+  keeps = λ files dir given.
+      subst (λ (both : Entry × Sets). AreSetsOf files dir both.0 both.1) (λ i. (
+        record { name = sym n i; release_slot = sym r i; override_slot = sym o i; boot_slot = sym b i; container = sym c i },
+        record { release = sym s i; boot = sym t i },
+      ))
+      (record {
+        release = record { package_map = given.stand.package_map; flag_map = given.stand.flag_map; flag_val = given.stand.flag_val; flag_info = given.stand.flag_info };
+        boot = stands files dir given.booted;
+      });
 }

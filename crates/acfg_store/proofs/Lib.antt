@@ -12,6 +12,7 @@ pub mod Keeping
 pub mod Listed
 pub mod Lying
 pub mod Nothing
+pub mod Numbering
 pub mod OneSet
 pub mod OneState
 pub mod Opened
@@ -21,5 +22,9 @@ pub mod Placing
 pub mod Reading
 pub mod Rowed
 pub mod Showing
+pub mod Slotted
+pub mod Spreading
 pub mod Stored
 pub mod Unused
+pub mod Writing
+pub mod Written

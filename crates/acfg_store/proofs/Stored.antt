@@ -1,8 +1,8 @@
 -- What is told of a directory that is opened as a store.
-use Rattle.std.proofs.Common.{◌≡◌, ℕ, ◌+◌, ◌<◌, List, [], ◌∷◌, ◌++◌, map, length, get_or, take, drop, add-one, Some, None, inr, refl, sym, ap, ◌∙◌, subst, arith, drop-cons}
+use Rattle.std.proofs.Common.{◌≡◌, ℕ, zero, suc, ◌+◌, ◌<◌, List, [], ◌∷◌, ◌++◌, map, length, get_or, take, drop, add-one, Some, None, inr, refl, sym, ap, ◌∙◌, subst, arith, drop-cons}
 use Rattle.std.specs.Prelude.{All}
-use Rattle.std.proofs.lemmas.List.{map-append, take-append-drop, take_more}
-use Rattle.std.proofs.lemmas.List.Elements.{All-append, All-cons, All-nil}
+use Rattle.std.proofs.lemmas.List.{length-map, map-append, take-append-drop, take_more}
+use Rattle.std.proofs.lemmas.List.Elements.{All-append, All-cons, All-head, All-nil, All-tail}
 use Rattle.std.specs.Prelude.{string_bytes}
 use Rattle.acfg_device.specs.Account.{Account}
 use Rattle.acfg_device.specs.Disk.{MayLeave}
@@ -21,10 +21,11 @@ use Rattle.acfg_store.specs.declared.store_fault.StoreFault.{StoreFault}
 use Rattle.acfg_store.specs.declared.store_fault.StoreFault.TheVariants.{Damaged, Device, OutOfMemory}
 use Rattle.acfg_store.specs.Commits.{IsLayout}
 use Rattle.acfg_store.specs.Judged.{Blames}
-use Rattle.acfg_store.specs.Kept.{IsFaultWhere, entry_of}
+use Rattle.acfg_store.specs.Kept.{IsFaultWhere, IsIndexed, entry_of, sets_of}
 use Rattle.acfg_store.specs.Names.{path}
-use Rattle.acfg_store.specs.Opening.{AreKept, AreOfRows, IsPartOfRows, TellsOfRow, TellsOfRows, entries_of}
+use Rattle.acfg_store.specs.Opening.{AreKept, AreOfRows, IsPartOfRows, KeepsFiles, TellsOfRow, TellsOfRows, all_sets_of, entries_of}
 use Rattle.acfg_store.specs.Records.{AreRecords, SpellsRecords}
+use Rattle.acfg_store.specs.Sets.{AreSetsOf, AreSetsOfAll, Sets}
 use Rattle.acfg_store.specs.Stands.{Entry, Holds, recorded}
 use Rattle.acfg_store.specs.Store.{TellsDamage}
 use Rattle.acfg_store.specs.StoreFaults.{NamesPart, fault_of}
@@ -34,7 +35,7 @@ none_recorded : AreRecords (map recorded [])
 none_recorded = record { bound = omega arith; each = λ k d within. absurd (omega arith); order = refl }
 
 pub none_kept : AreKept []
-none_kept = record { listed = none_recorded; valid = All-nil (λ (e : Entry). IsValidContainer e.container) }
+none_kept = record { listed = none_recorded; valid = All-nil (λ (e : Entry). IsValidContainer e.container); indexed = All-nil IsIndexed }
 
 -- a directory without a list has no containers
 pub none_lie : (files : Files) (dir : List ℕ) → files (path dir [] Records) ≡ None → IsLayout files dir []
@@ -43,8 +44,8 @@ none_lie files dir none = record {
   valid = layout_valid [] none_recorded (All-nil (λ (e : Entry). IsValidContainer e.container));
 }
 
-pub rows_kept : (bytes : List ℕ) (rows : List Recorded) (kept : List Kept) → SpellsRecords bytes rows → AreOfRows rows kept → AreKept (entries_of kept)
-rows_kept bytes rows kept spells of = record { listed = subst AreRecords (sym of.listed) spells.lawful; valid = of.valid }
+pub rows_kept : (bytes : List ℕ) (rows : List Recorded) (kept : List Kept) → SpellsRecords bytes rows → AreOfRows rows kept → AreKept kept
+rows_kept bytes rows kept spells of = record { listed = subst AreRecords (sym of.listed) spells.lawful; valid = of.valid; indexed = of.indexed }
 
 -- what a read that fails tells
 pub read_told : (files : Files) (dir : List ℕ) (fault : ReadFault) (made : StoreFault) → made ≡ fault_of fault → TellsDamage files dir made
@@ -83,6 +84,29 @@ reads_around before first second after start end leaves =
 
 -- ---- container by container
 
+-- the files of one container more
+pub kept_more : (kept : List Kept) (one : Kept) (items : List Kept) → items ≡ kept ++ one ∷ [] → (files : Files) (dir : List ℕ) → All (KeepsFiles files dir) kept → KeepsFiles files dir one
+    → All (KeepsFiles files dir) items
+kept_more kept one items are files dir all here =
+    subst (All (KeepsFiles files dir)) (sym are) (All-append (KeepsFiles files dir) kept (one ∷ []) all (All-cons (KeepsFiles files dir) one [] here (All-nil (KeepsFiles files dir))))
+
+-- all of them, in order
+pub all_kept : (files : Files) (dir : List ℕ) (kept : List Kept) → All (KeepsFiles files dir) kept → AreSetsOfAll files dir (entries_of kept) (all_sets_of kept)
+all_kept files dir kept all = record {
+  count = length-map kept sets_of ∙ sym (length-map kept entry_of);
+  each = λ k entry of within.
+      let below : k < length kept = subst (λ (n : ℕ). k < n) (length-map kept entry_of) within in
+      each_kept kept all k entry of below;
+}
+  where
+    each_kept : (kept : List Kept) → All (KeepsFiles files dir) kept → (k : ℕ) (entry : Entry) (of : Sets) → k < length kept → AreSetsOf files dir (get_or (entries_of kept) k entry) (get_or (all_sets_of kept) k of)
+    each_kept [] all k entry of below = absurd (omega arith)
+    each_kept (one ∷ rest) all zero entry of below = All-head (KeepsFiles files dir) one rest all
+    each_kept (one ∷ rest) all (suc k) entry of below = each_kept rest (All-tail (KeepsFiles files dir) one rest all) k entry of (omega (arith, below))
+
+pub none_kept_of : (files : Files) (dir : List ℕ) → AreSetsOfAll files dir [] []
+none_kept_of files dir = record { count = refl; each = λ k entry of within. absurd (omega (arith, within)) }
+
 abbrev Valid : Entry → Type 0
 Valid entry = IsValidContainer entry.container
 
@@ -108,12 +132,13 @@ module _ (rows : List Recorded) (kept : List Kept) (i : ℕ) (row : Recorded) (w
     one_of P here = All-cons P (entry_of one) [] here (All-nil P)
 
     -- one container more
-    pub of_more : AreOfRows (take i rows) kept → recorded (entry_of one) ≡ row → IsValidContainer one.container → AreOfRows (take (i + 1) rows) items
-    of_more of listed valid = record {
+    pub of_more : AreOfRows (take i rows) kept → recorded (entry_of one) ≡ row → IsValidContainer one.container → IsIndexed one → AreOfRows (take (i + 1) rows) items
+    of_more of listed valid indexed = record {
       listed =
           ap (map recorded) entries_are ∙ map-append recorded (entries_of kept) (entry_of one ∷ []) ∙ ap (λ (t : List Recorded). t ++ recorded (entry_of one) ∷ []) of.listed
           ∙ ap (λ (r : Recorded). take i rows ++ r ∷ []) (listed ∙ is) ∙ sym (take_more rows i row within);
       valid = subst (All Valid) (sym entries_are) (All-append Valid (entries_of kept) (entry_of one ∷ []) of.valid (one_of Valid valid));
+      indexed = subst (All IsIndexed) (sym are) (All-append IsIndexed kept (one ∷ []) of.indexed (All-cons IsIndexed one [] indexed (All-nil IsIndexed)));
     }
 
     pub held_more : (files : Files) (dir : List ℕ) → All (Holds files dir) (entries_of kept) → Holds files dir (entry_of one) → All (Holds files dir) (entries_of items)

@@ -1,12 +1,14 @@
 -- Private: what is kept of a container, by the files that were read. No public clause cites it.
-use Rattle.std.specs.Prelude.{◌≡◌, ℕ, List, length, Option, option_map}
-use Rattle.acfg_base.specs.Release.{HasLawfulKeys}
+use Rattle.std.specs.Prelude.{◌≡◌, ℕ, List, length, map, Option, Some, option_map}
+use Rattle.acfg_base.specs.declared.releases.Entry.{Entry as FlagEntry}
+use Rattle.acfg_base.specs.Places.{row_at}
+use Rattle.acfg_base.specs.Release.{HasLawfulKeys, ReleaseMap, entries_of, key_cmp, key_of}
 use Rattle.acfg_device.specs.Panel.{Files}
 use Rattle.acfg_images.specs.declared.purpose.Use.TheVariants as purpose
 use Rattle.acfg_images.specs.Faults.{Opened, parts_in}
 use Rattle.acfg_images.specs.Files as four
 use Rattle.acfg_images.specs.Laws.{release_of}
-use Rattle.acfg_images.specs.Set.{listing}
+use Rattle.acfg_images.specs.Set.{IsSetOf, SetParts, listed_key, listing}
 use Rattle.acfg_model.specs.declared.containers.FlagState.{FlagState}
 use Rattle.acfg_model.specs.State.{IsValidContainer}
 use Rattle.acfg_store.specs.declared.boots.BootFiles.{BootFiles}
@@ -20,6 +22,7 @@ use Rattle.acfg_store.specs.Gathered.{AreOverridesRead, IsBootRead}
 use Rattle.acfg_store.specs.Judged.{IsMeantSet}
 use Rattle.acfg_store.specs.Over.{AreBytesIn, AreOverrides}
 use Rattle.acfg_store.specs.Placed.{AreFlagsOf}
+use Rattle.acfg_store.specs.Sets.{AreSetsOf, Sets}
 use Rattle.acfg_store.specs.Stands.{AreFiles, Entry, Holds, recorded}
 
 -- how a container that is kept lies in the directory
@@ -32,17 +35,37 @@ entry_of kept = record {
   container = kept.container;
 }
 
+-- the files that are kept of it
+abbrev pub sets_of : Kept → Sets
+sets_of kept = record { release = kept.release; boot = option_map (λ boot. boot.set) kept.boot }
+
+-- the global index that a set lists of a flag
+abbrev pub index_listed : SetParts → FlagEntry → Option ℕ
+index_listed parts entry = option_map (λ row. row.index) (row_at key_cmp listed_key (listing parts) (key_of entry))
+
+-- the indexes are those that the set lists of a release's flags, in order
+pub record AreIndexesOf (set : four.Files) (release : ReleaseMap) (indexes : List ℕ) : Type 0 where
+  pub parts : SetParts
+  pub is_set : IsSetOf set purpose.Release parts
+  pub are : map (λ index. Some index) indexes ≡ map (index_listed parts) (entries_of release)
+
+-- each flag's global index is kept beside the container
+abbrev pub IsIndexed : Kept → Type 0
+IsIndexed kept = AreIndexesOf kept.release kept.container.release kept.indexes.items
+
 module _ (row : Recorded) where
   -- the part is the first of the container at fault
   abbrev pub IsFirstPart : Files → List ℕ → Part → Type 0
   IsFirstPart files dir part = IsFirst (IsSound files dir row) (parts_of row) part
 
   module _ (Given : Files → List ℕ → Type 0) where
-    -- a container of the list, that lies in each directory where this is given
+    -- a container of the list, that lies in each directory where this is given, and whose files stand there
     pub record IsMadeWhere (kept : Kept) : Type 0 where
       pub listed : recorded (entry_of kept) ≡ row
       pub valid : IsValidContainer kept.container
+      pub indexed : IsIndexed kept
       pub holds : (files : Files) (dir : List ℕ) → Given files dir → Holds files dir (entry_of kept)
+      pub keeps : (files : Files) (dir : List ℕ) → Given files dir → AreSetsOf files dir (entry_of kept) (sets_of kept)
 
     -- the part is the first at fault in each directory where this is given
     abbrev pub IsFaultWhere : Part → Type 0

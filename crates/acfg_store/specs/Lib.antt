@@ -12,7 +12,10 @@ pub mod Opening
 pub mod Over
 pub mod Placed
 pub mod Records
+pub mod Sets
+pub mod Stamped
 pub mod Stands
 pub mod Store
 pub mod StoreFaults
 pub mod Taken
+pub mod Turned

@@ -8,9 +8,10 @@ use Rattle.acfg_store.specs.declared.records.Recorded.{Recorded}
 use Rattle.acfg_store.specs.declared.store_fault.StoreFault.{StoreFault}
 use Rattle.acfg_store.specs.declared.store_fault.StoreFault.TheVariants.{Damaged, Device, OutOfMemory}
 use Rattle.acfg_store.specs.Damage.{IsFirst, IsWhole}
-use Rattle.acfg_store.specs.Kept.{IsFirstPart, entry_of}
+use Rattle.acfg_store.specs.Kept.{IsFirstPart, IsIndexed, entry_of, sets_of}
 use Rattle.acfg_store.specs.Names.{path}
 use Rattle.acfg_store.specs.Records.{AreRecords}
+use Rattle.acfg_store.specs.Sets.{AreSetsOf, Sets}
 use Rattle.acfg_store.specs.Stands.{Entry, recorded}
 
 -- the name is that of the first part of the container at fault
@@ -39,12 +40,21 @@ TellsOfRows files dir rows OutOfMemory = ⊤
 abbrev pub entries_of : List Kept → List Entry
 entries_of kept = map entry_of kept
 
--- the containers are those of the list, and each is valid
+abbrev pub all_sets_of : List Kept → List Sets
+all_sets_of kept = map sets_of kept
+
+-- the files that are kept of a container stand in its named slots
+abbrev pub KeepsFiles : Files → List ℕ → Kept → Type 0
+KeepsFiles files dir kept = AreSetsOf files dir (entry_of kept) (sets_of kept)
+
+-- the containers are those of the list, and each is valid, with the index of each flag
 pub record AreOfRows (rows : List Recorded) (kept : List Kept) : Type 0 where
   pub listed : map recorded (entries_of kept) ≡ rows
   pub valid : All (λ entry. IsValidContainer entry.container) (entries_of kept)
+  pub indexed : All IsIndexed kept
 
--- containers that a store keeps: lawfully listed, and valid
-pub record AreKept (entries : List Entry) : Type 0 where
-  pub listed : AreRecords (map recorded entries)
-  pub valid : All (λ entry. IsValidContainer entry.container) entries
+-- containers that a store keeps: lawfully listed, valid, and with the index of each flag
+pub record AreKept (kept : List Kept) : Type 0 where
+  pub listed : AreRecords (map recorded (entries_of kept))
+  pub valid : All (λ entry. IsValidContainer entry.container) (entries_of kept)
+  pub indexed : All IsIndexed kept

@@ -1,4 +1,4 @@
--- A store: its directory, and how its containers lie there.
+-- A store: its directory, how its containers lie there, and which files it keeps of them.
 use Rattle.std.specs.Prelude.{◌≡◌, ⊤, ℕ, List, [], Result, Ok, Err, string_bytes}
 use Rattle.acfg_device.specs.Disk.{Disk}
 use Rattle.acfg_device.specs.Left.{IsSyncedAt}
@@ -6,12 +6,14 @@ use Rattle.acfg_device.specs.Panel.{Files}
 use Rattle.acfg_store.specs.declared.store_fault.StoreFault.{StoreFault}
 use Rattle.acfg_store.specs.declared.store_fault.StoreFault.TheVariants.{Damaged, Device, OutOfMemory}
 use Rattle.acfg_store.specs.Damage.{IsDamaged}
+use Rattle.acfg_store.specs.Sets.{Sets}
 use Rattle.acfg_store.specs.Stands.{Entry}
 
 -- what contracts see of a store
 pub record StoreView : Type 0 where
   pub dir : List ℕ
   pub entries : List Entry
+  pub sets : List Sets
 
 -- what holds where an answer is given: a store, or the file at fault
 abbrev pub OnAnswer : {X : Type 0} → Result X StoreFault → Type 0 → Type 0

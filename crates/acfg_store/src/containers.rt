@@ -1,17 +1,19 @@
 //! A container, made of what was read of its files.
 
 ghost use Rattle.std.specs.Prelude.{◌≡◌, List, Option, ℕ};
+ghost use Rattle.acfg_model.specs.FlagStates.{release_in};
 ghost use Rattle.acfg_model.specs.State.{IsDigest};
 ghost use Rattle.acfg_store.specs.declared.names.OverrideFile as overrides;
 ghost use Rattle.acfg_store.specs.Gathered.{AreContainerRead};
 ghost use Rattle.acfg_store.specs.Judged.{Judges};
-ghost use Rattle.acfg_store.specs.Kept.{AreRowsOf, IsFaultWhere, IsMadeWhere, OverridesStand, RowsStand, SetStands};
+ghost use Rattle.acfg_store.specs.Kept.{AreIndexesOf, AreRowsOf, IsFaultWhere, IsMadeWhere, OverridesStand};
+ghost use Rattle.acfg_store.specs.Kept.{RowsStand, SetStands};
 ghost use Rattle.acfg_store.specs.Over.{read_over};
 
 use crate::boots::{BootFiles, Copied, judge_copy};
 use crate::faults::{Fault, in_boot, in_overrides, in_release};
 use crate::names::{Part, Slot};
-use crate::placed::flags_in;
+use crate::placed::{flags_in, indexes_of};
 use crate::records::Recorded;
 use crate::sets::{SlotFiles, check_release, whole};
 use crate::slots::{OverrideFiles, are_bytes, judge_overrides};
@@ -35,7 +37,14 @@ pub(crate) struct BootSlot {
     pub(crate) set: ImageSet,
 }
 
-/// A container with its slots, and the files of its release and of its boot copy.
+/// The flags of a release with their overrides, in order, and the global index of each.
+#[derive(Debug, Drop)]
+pub(crate) struct Flags {
+    pub(crate) rows: Vec<FlagState>,
+    pub(crate) indexes: Vec<u32>,
+}
+
+/// A container with its slots, the files of its release and of its boot copy, and the global index of each flag.
 #[derive(Debug, Drop)]
 pub(crate) struct Kept {
     pub(crate) name: ContainerName,
@@ -44,6 +53,7 @@ pub(crate) struct Kept {
     pub(crate) release: ImageSet,
     pub(crate) boot: Option<BootSlot>,
     pub(crate) container: Container,
+    pub(crate) indexes: Vec<u32>,
 }
 
 /// The container that the files hold, or the first part of it that is at fault.
@@ -81,7 +91,7 @@ fn judge_set(
 {
     are_bytes(&read);
     match list_rows(alloc, row, &set, &read) {
-        Ok(rows) => judge_boot(alloc, row, set, rows, boot),
+        Ok(flags) => judge_boot(alloc, row, set, flags, boot),
         Err(fault) => Err(fault),
     }
 }
@@ -92,8 +102,9 @@ fn list_rows(
     row: &Recorded,
     set: &ImageSet,
     read: &OverrideFiles,
-) -> Result<Vec<FlagState>, Fault<Part>>
-    ensures { Judges (λ rows. AreRowsOf row.now set.now (read_over read.now) rows.items)
+) -> Result<Flags, Fault<Part>>
+    ensures { Judges (λ flags. AreRowsOf row.now set.now (read_over read.now) flags.rows.items
+        × AreIndexesOf set.now (release_in flags.rows.items) flags.indexes.items)
         (IsFaultWhere row.now (OverridesStand row.now set.now (read_over read.now))) result }
 {
     let checked = match check_release(alloc, set, row) {
@@ -101,9 +112,10 @@ fn list_rows(
         Err(fault) => return Err(in_release(row.release, fault)),
     };
     let flags = flags_in(alloc, &checked)?;
+    let indexes = indexes_of(alloc, flags.as_slice())?;
     are_bytes(read);
     match judge_overrides(alloc, read, row.name.as_str(), checked.count(), flags) {
-        Ok(rows) => Ok(rows),
+        Ok(rows) => Ok(Flags { rows, indexes }),
         Err(fault) => Err(in_overrides(row.overrides, fault)),
     }
 }
@@ -113,13 +125,14 @@ fn judge_boot(
     alloc: Global,
     row: &Recorded,
     set: ImageSet,
-    rows: Vec<FlagState>,
+    flags: Flags,
     boot: BootFiles,
 ) -> Result<Kept, Fault<Part>>
     requires digest { IsDigest row.now.digest }
-    requires rows { (held : overrides.OverrideFile → Option (List ℕ)) × AreRowsOf row.now set held rows.items }
-    ensures { Judges (IsMadeWhere row.now (RowsStand row.now set rows.items boot))
-        (IsFaultWhere row.now (RowsStand row.now set rows.items boot)) result }
+    requires rows { (held : overrides.OverrideFile → Option (List ℕ)) × AreRowsOf row.now set held flags.rows.items }
+    requires indexes { AreIndexesOf set (release_in flags.rows.items) flags.indexes.items }
+    ensures { Judges (IsMadeWhere row.now (RowsStand row.now set flags.rows.items boot))
+        (IsFaultWhere row.now (RowsStand row.now set flags.rows.items boot)) result }
 {
     let name = row.name.clone()?;
     match boot {
@@ -129,10 +142,11 @@ fn judge_boot(
             override_slot: row.overrides,
             release: set,
             boot: None,
-            container: Container::kept(row.digest, rows, None),
+            container: Container::kept(row.digest, flags.rows, None),
+            indexes: flags.indexes,
         }),
         BootFiles::Bad => Err(Fault::At(Part::Pointer)),
-        BootFiles::Named(slot, files) => judge_named(alloc, row, name, set, rows, slot, files),
+        BootFiles::Named(slot, files) => judge_named(alloc, row, name, set, flags, slot, files),
     }
 }
 
@@ -142,15 +156,16 @@ fn judge_named(
     row: &Recorded,
     name: ContainerName,
     set: ImageSet,
-    rows: Vec<FlagState>,
+    flags: Flags,
     slot: Slot,
     files: SlotFiles,
 ) -> Result<Kept, Fault<Part>>
     requires digest { IsDigest row.now.digest }
     requires name { name ≡ row.now.name }
-    requires rows { (held : overrides.OverrideFile → Option (List ℕ)) × AreRowsOf row.now set held rows.items }
-    ensures { Judges (IsMadeWhere row.now (RowsStand row.now set rows.items (BootFiles.Named slot files)))
-        (IsFaultWhere row.now (RowsStand row.now set rows.items (BootFiles.Named slot files))) result }
+    requires rows { (held : overrides.OverrideFile → Option (List ℕ)) × AreRowsOf row.now set held flags.rows.items }
+    requires indexes { AreIndexesOf set (release_in flags.rows.items) flags.indexes.items }
+    ensures { Judges (IsMadeWhere row.now (RowsStand row.now set flags.rows.items (BootFiles.Named slot files)))
+        (IsFaultWhere row.now (RowsStand row.now set flags.rows.items (BootFiles.Named slot files))) result }
 {
     match judge_copy(alloc, row.name.as_str(), files) {
         Ok(found) => {
@@ -161,7 +176,8 @@ fn judge_named(
                 override_slot: row.overrides,
                 release: set,
                 boot: Some(BootSlot { slot, set: copied }),
-                container: Container::kept(row.digest, rows, Some(copy)),
+                container: Container::kept(row.digest, flags.rows, Some(copy)),
+                indexes: flags.indexes,
             })
         }
         Err(fault) => Err(in_boot(slot, fault)),

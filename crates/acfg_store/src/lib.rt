@@ -17,8 +17,10 @@ mod records;
 mod rows;
 mod sets;
 mod slots;
+mod stamping;
 mod store;
 mod store_fault;
+mod turning;
 
 pub use laws::{
     commits_leave_states, names_are_apart, nothing_stands, one_container_changes, one_damage,

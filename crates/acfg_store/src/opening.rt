@@ -3,8 +3,8 @@
 ghost use Rattle.std.specs.Prelude.{◌≡◌, All, Err, IfErr, IfOk, IsTrue};
 ghost use Rattle.acfg_device.specs.Only.{OnlyReads};
 ghost use Rattle.acfg_model.specs.State.{IsDigest, IsValidContainer};
-ghost use Rattle.acfg_store.specs.Kept.{entry_of};
-ghost use Rattle.acfg_store.specs.Opening.{AreOfRows, TellsOfRow, TellsOfRows, entries_of};
+ghost use Rattle.acfg_store.specs.Kept.{IsIndexed, entry_of};
+ghost use Rattle.acfg_store.specs.Opening.{AreOfRows, KeepsFiles, TellsOfRow, TellsOfRows, entries_of};
 ghost use Rattle.acfg_store.specs.Stands.{Holds, recorded};
 
 use crate::containers::{Kept, judge};
@@ -24,7 +24,9 @@ pub(crate) fn open_one<P: Panel>(
     requires { IsDigest row.now.digest }
     ensures listed { IfOk result (λ kept. recorded (entry_of kept) ≡ row.now) }
     ensures valid { IfOk result (λ kept. IsValidContainer kept.container) }
+    ensures indexed { IfOk result IsIndexed }
     ensures holds { IsTrue P.tells → IfOk result (λ kept. Holds (P.files panel.old) dir.now (entry_of kept)) }
+    ensures keeps { IsTrue P.tells → IfOk result (KeepsFiles (P.files panel.old) dir.now) }
     ensures damaged { IsTrue P.tells → IfErr result (TellsOfRow (P.files panel.old) dir.now row.now) }
     ensures reads { OnlyReads P.Panel panel.old panel.new (result ≡ Err StoreFault.Device) }
 {
@@ -49,6 +51,7 @@ pub(crate) fn open_all<P: Panel>(
     ensures of { IfOk result (λ kept. AreOfRows rows.now kept.items) }
     ensures holds { IsTrue P.tells → IfOk result
         (λ kept. All (Holds (P.files panel.old) dir.now) (entries_of kept.items)) }
+    ensures keeps { IsTrue P.tells → IfOk result (λ kept. All (KeepsFiles (P.files panel.old) dir.now) kept.items) }
     ensures damaged { IsTrue P.tells → IfErr result (TellsOfRows (P.files panel.old) dir.now rows.now) }
     ensures reads { OnlyReads P.Panel panel.old panel.new (result ≡ Err StoreFault.Device) }
 {

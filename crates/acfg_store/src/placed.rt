@@ -1,19 +1,19 @@
 //! The flags of a set in order of their names, each with its place in the set's files.
 
-ghost use Rattle.std.specs.Prelude.{◌≡◌, IfOk};
+ghost use Rattle.std.specs.Prelude.{◌≡◌, IfOk, map};
 ghost use Rattle.acfg_base.specs.Release.{HasLawfulKeys, entries_of};
 ghost use Rattle.acfg_images.specs.declared.purpose.Use.{Use};
 ghost use Rattle.acfg_images.specs.Faults.{parts_in};
 ghost use Rattle.acfg_images.specs.Files.{Files};
 ghost use Rattle.acfg_images.specs.Laws.{release_of};
 ghost use Rattle.acfg_images.specs.Set.{IsSetOf};
-ghost use Rattle.acfg_store.specs.Placed.{AreFlagsOf};
+ghost use Rattle.acfg_store.specs.Placed.{AreFlagsOf, index_of};
 
 use acfg_base::{Entry, Name, OutOfMemory, PackageName};
 use acfg_images::{Checked, flags_of};
 use acfg_lookup::{Found, find_flag};
 use acfg_views::Steps;
-use std::alloc::Global;
+use std::alloc::{AllocError, Global};
 use std::marker::Brand;
 use std::sync::ledger::{Blank, Ledger};
 
@@ -34,6 +34,13 @@ pub(crate) fn flags_in(alloc: Global, set: &Checked<'_>) -> Result<Vec<Placed>, 
     let release = flags_of(alloc, set)?;
     let _count = release.len();
     place_all::<Brand>(alloc, set, release.into_entries(), Blank::new(1))
+}
+
+/// The global indexes of flags, in the order of the flags.
+pub(crate) fn indexes_of(alloc: Global, flags: &[Placed]) -> Result<Vec<u32>, AllocError>
+    ensures { IfOk result (λ indexes. indexes.items ≡ map index_of flags.now) }
+{
+    flags.iter().map(|flag| flag.found.index).collect(alloc)
 }
 
 fn place_all<L: Ledger>(

@@ -8,7 +8,8 @@ ghost use Rattle.acfg_model.specs.Views.{state_from};
 ghost use Rattle.acfg_store.specs.declared.names.Part.TheVariants as part;
 ghost use Rattle.acfg_store.specs.Commits.{IsLayout};
 ghost use Rattle.acfg_store.specs.Names.{path};
-ghost use Rattle.acfg_store.specs.Opening.{AreKept, entries_of};
+ghost use Rattle.acfg_store.specs.Opening.{AreKept, all_sets_of, entries_of};
+ghost use Rattle.acfg_store.specs.Sets.{AreSetsOfAll};
 ghost use Rattle.acfg_store.specs.Stands.{Stands, state_of};
 ghost use Rattle.acfg_store.specs.Store.{IsDurable, OnAnswer, TellsDamage};
 
@@ -25,7 +26,8 @@ use acfg_model::State;
 use std::alloc::{AllocError, Global};
 use std::marker::Model;
 
-/// A device directory that was opened. Contracts see its name, and how its containers lie there.
+/// A device directory that was opened. Contracts see its name, how its containers lie there, and the files of their
+/// releases and boot copies, which the store keeps.
 #[derive(Debug, Drop)]
 pub struct Store {
     dir: String,
@@ -35,21 +37,26 @@ pub struct Store {
 impl Model for Store {
     ghost use Rattle.std.specs.Prelude.{string_bytes};
     ghost use Rattle.acfg_store.specs.Codes.{store_code};
-    ghost use Rattle.acfg_store.specs.Opening.{AreKept, entries_of};
+    ghost use Rattle.acfg_store.specs.Opening.{AreKept, all_sets_of, entries_of};
     ghost use Rattle.acfg_store.specs.Store.{StoreView};
 
     ghost Value = { StoreView };
 
     ghost coded = { store_code };
 
-    ghost view = { λ store. record { dir = string_bytes store.dir; entries = entries_of store.containers.items } };
+    ghost view = { λ store. record {
+      dir = string_bytes store.dir;
+      entries = entries_of store.containers.items;
+      sets = all_sets_of store.containers.items;
+    } };
 
-    ghost invariant = { λ store. AreKept (entries_of store.containers.items) };
+    ghost invariant = { λ store. AreKept store.containers.items };
 }
 
 impl Store {
     /// Opens a directory. The answer is `Ok` exactly where its files stand for a state, failures of the outside and
-    /// want of memory aside, and that state is the store's.
+    /// want of memory aside, and that state is the store's. The files that the store keeps are those that stand in the
+    /// containers' named slots.
     ///
     /// Where there is a list of containers, it is synced, and then the names, before anything is answered: so what is
     /// answered from here on is durable, also where a process was killed before and is run again.
@@ -63,6 +70,8 @@ impl Store {
         ensures lies { IsTrue D.tells → IfOk result (λ store. IsLayout (D.files device.old) dir.now store.entries) }
         ensures stands { IsTrue D.tells → IfOk result
             (λ store. Stands (D.files device.old) dir.now (state_of store.entries)) }
+        ensures kept { IsTrue D.tells → IfOk result
+            (λ store. AreSetsOfAll (D.files device.old) dir.now store.entries store.sets) }
         ensures damaged { IsTrue D.tells → IfErr result (TellsDamage (D.files device.old) dir.now) }
         ensures syncs { OnlySyncs D.Panel device.old device.new (result ≡ Err StoreFault.Device) }
 
@@ -93,6 +102,8 @@ impl Store {
         requires { IsTrue D.tells → D.files device.old (path dir.now [] part.Records) ≡ Some bytes.now }
         ensures dir { IfOk result (λ store. store.dir ≡ dir.now) }
         ensures lies { IsTrue D.tells → IfOk result (λ store. IsLayout (D.files device.old) dir.now store.entries) }
+        ensures kept { IsTrue D.tells → IfOk result
+            (λ store. AreSetsOfAll (D.files device.old) dir.now store.entries store.sets) }
         ensures damaged { IsTrue D.tells → IfErr result (TellsDamage (D.files device.old) dir.now) }
         ensures syncs { OnlySyncs D.Panel device.old device.new (result ≡ Err StoreFault.Device) }
         ensures cut { IsTrue D.tells → LeavesSince (D.account device.old) (D.account device.new)
@@ -118,6 +129,8 @@ impl Store {
         requires there { IsTrue P.tells → P.files panel.old (path dir.now [] part.Records) ≡ Some bytes.now }
         ensures dir { IfOk result (λ store. store.dir ≡ dir.now) }
         ensures lies { IsTrue P.tells → IfOk result (λ store. IsLayout (P.files panel.old) dir.now store.entries) }
+        ensures kept { IsTrue P.tells → IfOk result
+            (λ store. AreSetsOfAll (P.files panel.old) dir.now store.entries store.sets) }
         ensures damaged { IsTrue P.tells → IfErr result (TellsDamage (P.files panel.old) dir.now) }
         ensures reads { OnlyReads P.Panel panel.old panel.new (result ≡ Err StoreFault.Device) }
     {
@@ -133,9 +146,10 @@ impl Store {
 
     // The store of these containers.
     fn new(alloc: Global, dir: &str, containers: Vec<Kept>) -> Result<Store, AllocError>
-        requires { AreKept (entries_of containers.items) }
+        requires { AreKept containers.items }
         ensures dir { IfOk result (λ store. store.dir ≡ dir.now) }
         ensures entries { IfOk result (λ store. store.entries ≡ entries_of containers.items) }
+        ensures sets { IfOk result (λ store. store.sets ≡ all_sets_of containers.items) }
     {
         let dir = String::from_str(alloc, dir)?;
         Ok(Store { dir, containers })
@@ -155,7 +169,7 @@ impl Store {
 
 // The state of containers in order.
 fn shown(alloc: Global, containers: &[Kept]) -> Result<State, AllocError>
-    requires { AreKept (entries_of containers.now) }
+    requires { AreKept containers.now }
     ensures { IfOk result (λ state. state_from state ≡ state_of (entries_of containers.now)) }
 {
     let mut states = Vec::with_capacity(alloc, containers.len())?;

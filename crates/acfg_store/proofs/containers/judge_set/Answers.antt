@@ -4,14 +4,17 @@ use Rattle.acfg_store.proofs.Judging.{given_more, same_fault}
 use Rattle.acfg_store.proofs.containers.judge_set.Goals as goal
 
 pub judge_boot-requires-clause-rows : goal.judge_boot-requires-clause-rows
-judge_boot-requires-clause-rows c = (read_over c.args.read, c.in-Ok.ensures)
+judge_boot-requires-clause-rows c = (read_over c.args.read, c.in-Ok.ensures.0)
+
+pub judge_boot-requires-clause-indexes : goal.judge_boot-requires-clause-indexes
+judge_boot-requires-clause-indexes c = c.in-Ok.ensures.1
 
 pub returns-in-Ok : goal.returns-in-Ok
 returns-in-Ok c =
-    given_more c.args.row.now (RowsStand c.args.row.now c.args.set c.in-Ok.rows.items c.args.boot) (SetStands c.args.row.now c.args.set (read_over c.args.read) c.args.boot)
+    given_more c.args.row.now (RowsStand c.args.row.now c.args.set c.in-Ok.flags.rows.items c.args.boot) (SetStands c.args.row.now c.args.set (read_over c.args.read) c.args.boot)
     (λ files dir given. record {
       held = read_over c.args.read;
-      of = c.in-Ok.ensures;
+      of = c.in-Ok.ensures.0;
       fits = c.are_bytes.ensures;
       stand = given.stand;
       overrides = given.overrides;

@@ -1,12 +1,14 @@
-use Rattle.std.proofs.Common.{ℕ, List, ◌∙◌, subst}
+use Rattle.std.proofs.Common.{ℕ, List, map, ap, ◌∙◌, subst}
 use Rattle.acfg_images.specs.declared.purpose.Use.TheVariants as purpose
-use Rattle.acfg_images.specs.Faults.{checked}
+use Rattle.acfg_images.specs.Faults.{checked, parts_in}
 use Rattle.acfg_store.specs.declared.names.Part.TheVariants as part
 use Rattle.acfg_store.specs.Damage.{IsFirst, IsItsRelease}
 use Rattle.acfg_store.specs.Judged.{IsBlamed}
 use Rattle.acfg_store.specs.Kept.{IsFaultWhere, OverridesStand}
 use Rattle.acfg_store.specs.Over.{AreOverrides, IsSoundOver, read_over, three_files}
+use Rattle.acfg_store.specs.Placed.{index_of}
 use Rattle.acfg_store.proofs.Judging.{fault_told, flags_counted, flags_within, overrides_fault, release_fault}
+use Rattle.acfg_store.proofs.Numbering.{indexes_listed}
 use Rattle.acfg_store.proofs.containers.list_rows.Goals as goal
 
 pub returns-in-Err : goal.returns-in-Err
@@ -20,16 +22,26 @@ judge_overrides-requires c =
     flags_within c.args.row.now c.args.set.now c.in-Ok.checked c.in-Ok.ensures c.in_ok-flags.flags.items c.in_ok-flags.ensures.flags c.count.result c.count.ensures.flags
 
 pub returns-in-Ok-judge_overrides : goal.returns-in-Ok-judge_overrides
-returns-in-Ok-judge_overrides c = record {
-  opened = c.in-Ok.checked;
-  is = c.in-Ok.ensures;
-  flags = c.in_ok-flags.flags.items;
-  are = c.in_ok-flags.ensures.flags;
-  keys = c.in_ok-flags.ensures.keys;
-  count = c.count.result;
-  count_is = c.count.ensures.flags ∙ flags_counted c.args.row.now c.args.set.now c.in-Ok.checked c.in-Ok.ensures;
-  over = subst (λ (name : List ℕ). AreOverrides name c.count.result c.in_ok-flags.flags.items (read_over c.args.read.now) c.in-Ok-judge_overrides.rows.items) c.as_str.ensures.text c.in-Ok-judge_overrides.ensures;
-}
+returns-in-Ok-judge_overrides c =
+    let over : AreOverrides c.args.row.now.name c.count.result c.in_ok-flags.flags.items (read_over c.args.read.now) c.in-Ok-judge_overrides.rows.items =
+    subst (λ (name : List ℕ). AreOverrides name c.count.result c.in_ok-flags.flags.items (read_over c.args.read.now) c.in-Ok-judge_overrides.rows.items) c.as_str.ensures.text c.in-Ok-judge_overrides.ensures in (
+      record {
+        opened = c.in-Ok.checked;
+        is = c.in-Ok.ensures;
+        flags = c.in_ok-flags.flags.items;
+        are = c.in_ok-flags.ensures.flags;
+        keys = c.in_ok-flags.ensures.keys;
+        count = c.count.result;
+        count_is = c.count.ensures.flags ∙ flags_counted c.args.row.now c.args.set.now c.in-Ok.checked c.in-Ok.ensures;
+        over = over;
+      },
+      record {
+        parts = parts_in c.in-Ok.checked;
+        is_set = c.in-Ok.ensures.is_set;
+        are = indexes_listed (parts_in c.in-Ok.checked) c.in_ok-flags.flags.items c.in_ok-flags.ensures.flags over.values over.infos over.locals c.in-Ok-judge_overrides.rows.items over.rows_are
+            c.in_ok-indexes.indexes.items (c.in_ok-indexes.ensures ∙ ap (map index_of) c.as_slice.ensures.value);
+      },
+    )
 
 pub returns-in-Err-judge_overrides : goal.returns-in-Err-judge_overrides
 returns-in-Err-judge_overrides c =

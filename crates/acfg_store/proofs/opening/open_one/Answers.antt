@@ -7,6 +7,9 @@ use Rattle.acfg_store.proofs.opening.open_one.Goals as goal
 pub returns-in-Ok-judge-clause-holds : goal.returns-in-Ok-judge-clause-holds
 returns-in-Ok-judge-clause-holds g c told = c.in-Ok-judge.ensures.holds (g.P.Panel.files c.args.panel.now) c.args.dir.now (c.in-Ok.ensures.read told)
 
+pub returns-in-Ok-judge-clause-keeps : goal.returns-in-Ok-judge-clause-keeps
+returns-in-Ok-judge-clause-keeps g c told = c.in-Ok-judge.ensures.keeps (g.P.Panel.files c.args.panel.now) c.args.dir.now (c.in-Ok.ensures.read told)
+
 pub returns-in-Err-judge-clause-damaged : goal.returns-in-Err-judge-clause-damaged
 returns-in-Err-judge-clause-damaged g c told =
     row_told (g.P.Panel.files c.args.panel.now) c.args.dir.now c.args.row.now (λ files dir. AreContainerRead files dir c.args.row.now c.in-Ok.read) (c.in-Ok.ensures.read told) c.in-Err-judge.fault
