@@ -113,7 +113,8 @@ fn field_at_front(bytes: &[u8], place: usize) -> Result<(Field<'_>, &[u8]), Faul
 /// Reads all of the bytes as fields, in their order.
 ///
 /// Values are not copied: each slice is that part of `bytes`. Any spelling of a varint of up to
-/// ten bytes is read, and any number from 1 up. The room for the list is taken in doubling steps.
+/// ten bytes is read, and any number from 1 up. The list has room for a few fields from the start,
+/// and takes more in doubling steps.
 ///
 /// # Errors
 ///
