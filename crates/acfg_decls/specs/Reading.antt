@@ -90,6 +90,10 @@ abbrev pub flag_at : Value → Option DeclaredFlag
 flag_at (value.Message place tree) = Some (declared_flag place (out-Tree tree).items)
 flag_at _ = None
 
+-- what fields of these values declare; a word of private functions
+abbrev pub flags_at : List (List Value) → List DeclaredFlag
+flags_at fields = flat_map (λ values. filter_map flag_at values) fields
+
 -- what a `flag_declarations` declares
 abbrev pub declarations_in : List ℕ → Tree → DeclarationsFile
 declarations_in source tree = record {

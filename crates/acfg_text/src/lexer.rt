@@ -1,17 +1,16 @@
 //! The tokens of a text.
 
 ghost use Rattle.std.specs.Prelude.{◌≡◌, ◌+◌, ◌-◌, ◌^◌, ◌<◌, ◌≤◌, map, length, drop, slice_index, IfOk, IfErr, Ok, Err};
-ghost use Rattle.std.specs.Prelude.{OnErr};
 ghost use Rattle.acfg_text.specs.Terminals.{lexeme_of, terminal_of};
 ghost use Rattle.acfg_text.specs.Lexes.{Lexes, AreSlices, LexFault};
 ghost use Rattle.acfg_text.specs.TextFaults.{IfAt, Rising};
 ghost use Rattle.acfg_text.specs.Scanning.{lex, token_len, quoted_len, scan};
 ghost use Rattle.acfg_text.specs.Machine.{fault};
-ghost use Rattle.acfg_text.specs.Marked.{started, whole_len};
+ghost use Rattle.acfg_text.specs.Marked.{marked};
 
 use crate::bytes::{Lead, comment_len, lead_of, number_len, word_len};
 use crate::fault::{TextFault, TextWhat};
-use crate::marks::Tokens;
+use crate::marks::{Marks, Tokens};
 use crate::quoted::{Scan, scan_quoted};
 use crate::token::{Token, TokenKind};
 use std::alloc::Global;
@@ -32,24 +31,24 @@ pub fn tokens<'a>(alloc: Global, source: &'a [u8]) -> Result<Vec<Token<'a>>, Tex
     Ok(list)
 }
 
-/// The tokens of a text, as above, of which the places alone are kept.
+/// The tokens of a text, as above, of which their marks alone are kept.
 pub fn lexed<'a>(alloc: Global, source: &'a [u8]) -> Result<Tokens<'a>, TextFault>
     ensures ok { IfOk result (λ found. Lexes source.now found) }
     ensures few { IfOk result (λ found. length found < 2 ^ 64) }
     ensures err { IfErr result (λ failure. IfAt failure (LexFault source.now)) }
 {
-    let starts = read_starts(alloc, source)?;
-    let found = Tokens::new(source, starts);
+    let marks = read_marks(alloc, source)?;
+    let found = Tokens::new(source, marks);
     let _count = found.len();
     Ok(found)
 }
 
-// The places where the tokens of a text begin.
-fn read_starts(alloc: Global, source: &[u8]) -> Result<Vec<usize>, TextFault>
-    ensures ok { IfOk result (λ found. lex 0 0 source.now ≡ Ok (map (started source.now) found.items)) }
+// Where the tokens of a text begin and end.
+fn read_marks(alloc: Global, source: &[u8]) -> Result<Marks, TextFault>
+    ensures ok { IfOk result (λ found. lex 0 0 source.now ≡ Ok (map (marked source.now) found)) }
     ensures err { IfErr result (λ failure. IfAt failure (λ p w. lex 0 0 source.now ≡ Err (fault p w))) }
 {
-    let mut found = Vec::new(alloc);
+    let mut found = Marks::new(alloc);
     let mut at = 0;
     while at < source.len() {
         match lead_of(source[at]) {
@@ -57,7 +56,7 @@ fn read_starts(alloc: Global, source: &[u8]) -> Result<Vec<usize>, TextFault>
             Lead::Comment => at += 1 + comment_len(&source[at + 1..]),
             Lead::Token(kind) => {
                 let end = token_end(source, kind, at)?;
-                found.push(at)?;
+                found.push(at, end)?;
                 at = end;
             }
             Lead::Nothing => return Err(TextFault::At(at, TextWhat::BadByte)),
@@ -66,11 +65,8 @@ fn read_starts(alloc: Global, source: &[u8]) -> Result<Vec<usize>, TextFault>
     Ok(found)
 }
 
-/// Where a token of this kind ends that begins here.
-///
-/// # Errors
-/// Its fault and place, where it isn't whole.
-pub fn token_end(source: &[u8], kind: TokenKind, at: usize) -> Result<usize, TextFault>
+// Where a token of this kind ends that begins here.
+fn token_end(source: &[u8], kind: TokenKind, at: usize) -> Result<usize, TextFault>
     requires { at < length source.now }
     ensures ok { IfOk result (λ end.
         token_len kind (slice_index source.now at) at (drop (at + 1) source.now) ≡ Ok (end - (at + 1))) }
@@ -78,8 +74,6 @@ pub fn token_end(source: &[u8], kind: TokenKind, at: usize) -> Result<usize, Tex
     ensures err { IfErr result (λ failure.
         IfAt failure (λ p w.
         token_len kind (slice_index source.now at) at (drop (at + 1) source.now) ≡ Err (fault p w))) }
-    ensures broken { OnErr result (
-        whole_len (token_len kind (slice_index source.now at) at (drop (at + 1) source.now)) ≡ 0) }
 {
     let text = &source[at + 1..];
     match kind {
@@ -96,7 +90,6 @@ fn quoted_end(at: usize, quote: u8, text: &[u8]) -> Result<usize, TextFault>
     ensures within { IfOk result (λ end. (at < end) × (end ≤ at + 1 + length text.now)) }
     ensures err { IfErr result (λ failure.
         IfAt failure (λ p w. quoted_len at (scan quote 0 0 text.now) ≡ Err (fault p w))) }
-    ensures broken { OnErr result (whole_len (quoted_len at (scan quote 0 0 text.now)) ≡ 0) }
 {
     match scan_quoted(quote, text) {
         Scan::Closed(length) => Ok(at + 1 + length),

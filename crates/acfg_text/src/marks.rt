@@ -1,48 +1,130 @@
-//! Tokens kept as their places alone, so that the tokens of a large text take little memory.
+//! Tokens kept as where they begin and end, so that the tokens of a large text take little memory.
 
-ghost use Rattle.std.specs.Prelude.{◌≡◌, List, ◌∷◌, ◌+◌, ◌<◌, ◌≤◌, drop, length, map, slice_index, IfOk};
+ghost use Rattle.std.specs.Prelude.{◌≡◌, List, [], ◌∷◌, ◌++◌, ◌+◌, ◌-◌, ◌<◌, drop, length, map, take, IfOk, OnOk};
+ghost use Rattle.std.specs.Prelude.{slice_index_or};
 ghost use Rattle.acfg_text.specs.Terminals.{Lexeme, lexeme_of};
 ghost use Rattle.acfg_text.specs.Lexes.{lead};
-ghost use Rattle.acfg_text.specs.Scanning.{token_len};
-ghost use Rattle.acfg_text.specs.Marked.{kind_led, started, whole_len};
+ghost use Rattle.acfg_text.specs.Marked.{begun_kind, kind_led, marked};
 
 use crate::bytes::{Lead, lead_of};
-use crate::lexer::token_end;
 use crate::token::{Token, TokenKind};
 use std::alloc::{AllocError, Global};
 use std::marker::Model;
 
-/// The tokens of a source, of which the places alone are kept: a token is read of the source again. Contracts see the
-/// tokens.
+/// The largest place that fits in a short mark.
+const MOST_SHORT: usize = 0xFFFF_FFFF;
+
+// Where a token begins and ends, in a text of less than 4 GiB.
+#[derive(Clone, Copy, Debug)]
+struct Short {
+    start: u32,
+    end: u32,
+}
+
+// Where a token begins and ends.
+#[derive(Clone, Copy, Debug)]
+struct Long {
+    start: usize,
+    end: usize,
+}
+
+/// Where tokens begin and end, in their order. Contracts see pairs.
+#[derive(Debug, Drop)]
+pub struct Marks {
+    // The first ones.
+    shorts: Vec<Short>,
+    // Those behind them, from the first one that is too large for a short mark.
+    longs: Vec<Long>,
+}
+
+impl Model for Marks {
+    ghost use Rattle.std.specs.Prelude.{ℕ, List, ◌++◌, map};
+    ghost use Rattle.acfg_text.specs.Marked.{long_pair, short_pair};
+
+    ghost Value = { List (ℕ × ℕ) };
+
+    ghost view = { λ marks. map short_pair marks.shorts.items ++ map long_pair marks.longs.items };
+}
+
+impl Marks {
+    /// No marks, which take no memory.
+    pub fn new(alloc: Global) -> Marks
+        ensures { result ≡ [] }
+    {
+        Marks {
+            shorts: Vec::new(alloc),
+            longs: Vec::new(alloc),
+        }
+    }
+
+    /// How many marks there are.
+    pub fn len(&self) -> usize
+        ensures { result ≡ length self.now }
+    {
+        let shorts = self.shorts.len();
+        let longs = self.longs.len();
+        shorts + longs
+    }
+
+    /// Puts a mark behind the others.
+    pub fn push(&mut self, start: usize, end: usize) -> Result<(), AllocError>
+        ensures { OnOk result (self.new ≡ self.old ++ (start, end) ∷ []) }
+    {
+        if self.longs.is_empty() && start <= MOST_SHORT && end <= MOST_SHORT {
+            self.shorts.push(Short {
+                start: start as u32,
+                end: end as u32,
+            })?;
+        } else {
+            self.longs.push(Long { start, end })?;
+        }
+        Ok(())
+    }
+
+    /// The mark at a position.
+    pub fn at(&self, at: usize) -> (usize, usize)
+        requires { at < length self.now }
+        ensures { result ≡ slice_index_or self.now at (0, 0) }
+    {
+        if at < self.shorts.len() {
+            let short = self.shorts[at];
+            return (short.start as usize, short.end as usize);
+        }
+        let long = self.longs[at - self.shorts.len()];
+        (long.start, long.end)
+    }
+}
+
+/// The tokens of a source, of which the marks alone are kept. Contracts see the tokens.
 #[derive(Debug, Drop)]
 pub struct Tokens<'a> {
     source: &'a [u8],
-    starts: Vec<usize>,
+    marks: Marks,
 }
 
 impl<'a> Model for Tokens<'a> {
     ghost use Rattle.std.specs.Prelude.{List, map};
     ghost use Rattle.acfg_text.specs.Terminals.{Lexeme};
-    ghost use Rattle.acfg_text.specs.Marked.{started};
+    ghost use Rattle.acfg_text.specs.Marked.{marked};
 
     ghost Value = { List Lexeme };
 
-    ghost view = { λ tokens. map (started tokens.source.now) tokens.starts.items };
+    ghost view = { λ tokens. map (marked tokens.source.now) tokens.marks };
 }
 
 impl<'a> Tokens<'a> {
-    /// The tokens that begin at these places.
-    pub fn new(source: &'a [u8], starts: Vec<usize>) -> Tokens<'a>
-        ensures { result ≡ map (started source.now) starts.items }
+    /// The tokens at these marks.
+    pub fn new(source: &'a [u8], marks: Marks) -> Tokens<'a>
+        ensures { result ≡ map (marked source.now) marks }
     {
-        Tokens { source, starts }
+        Tokens { source, marks }
     }
 
     /// How many tokens there are.
     pub fn len(&self) -> usize
         ensures { result ≡ length self.now }
     {
-        self.starts.len()
+        self.marks.len()
     }
 
     /// The token at a position.
@@ -50,7 +132,8 @@ impl<'a> Tokens<'a> {
         requires { at < length self.now }
         ensures { drop at self.now ≡ lexeme_of result ∷ drop (at + 1) self.now }
     {
-        token_at(self.source, self.starts[at])
+        let (start, end) = self.marks.at(at);
+        token_at(self.source, start, end)
     }
 
     /// The kind of the token at a position, which its first byte tells.
@@ -58,7 +141,8 @@ impl<'a> Tokens<'a> {
         requires { at < length self.now }
         ensures { (l : Lexeme) (rest : List Lexeme) → drop at self.now ≡ l ∷ rest → l.kind ≡ result }
     {
-        kind_at(self.source, self.starts[at])
+        let (start, end) = self.marks.at(at);
+        kind_at(self.source, start, end)
     }
 
     /// The tokens, each with its kind and its slice of the source.
@@ -73,51 +157,45 @@ impl<'a> Tokens<'a> {
     }
 }
 
-// The kind of the token that begins at a place.
-fn kind_at(source: &[u8], place: usize) -> TokenKind
-    ensures { result ≡ (started source.now place).kind }
+// The kind of the token between two places.
+fn kind_at(source: &[u8], start: usize, end: usize) -> TokenKind
+    ensures { result ≡ (marked source.now (start, end)).kind }
 {
-    if place >= source.len() {
-        return TokenKind::Symbol;
-    }
-    kind_of(source[place])
+    kind_of(part(source, start, end))
 }
 
-// The token that begins at a place.
-fn token_at(source: &[u8], place: usize) -> Token<'_>
-    ensures { lexeme_of result ≡ started source.now place }
+// The token between two places.
+fn token_at(source: &[u8], start: usize, end: usize) -> Token<'_>
+    ensures { lexeme_of result ≡ marked source.now (start, end) }
 {
-    if place >= source.len() {
-        return Token {
-            kind: TokenKind::Symbol,
-            place,
-            text: &[],
-        };
-    }
-    let kind = kind_of(source[place]);
-    let end = whole_end(source, kind, place);
+    let text = part(source, start, end);
     Token {
-        kind,
-        place,
-        text: &source[place..end],
+        kind: kind_of(text),
+        place: start,
+        text,
     }
 }
 
-// Where a token of this kind ends that begins here: behind its first byte where it isn't whole.
-fn whole_end(source: &[u8], kind: TokenKind, at: usize) -> usize
-    requires { at < length source.now }
-    ensures end { result ≡ at + 1
-        + whole_len (token_len kind (slice_index source.now at) at (drop (at + 1) source.now)) }
-    ensures within { (at < result) × (result ≤ length source.now) }
+// What of a source stands between two places.
+fn part(source: &[u8], start: usize, end: usize) -> &[u8]
+    ensures { result.now ≡ take (end - start) (drop start source.now) }
 {
-    match token_end(source, kind, at) {
-        Ok(end) => end,
-        Err(_) => at + 1,
+    let behind = &source[start.min(source.len())..];
+    &behind[..end.saturating_sub(start).min(behind.len())]
+}
+
+// The kind of a token of this text, which its first byte tells.
+fn kind_of(text: &[u8]) -> TokenKind
+    ensures { result ≡ begun_kind text.now }
+{
+    match text {
+        [] => TokenKind::Symbol,
+        [first, ..] => kind_led_by(*first),
     }
 }
 
 // The kind of a token that begins by this byte.
-fn kind_of(byte: u8) -> TokenKind
+fn kind_led_by(byte: u8) -> TokenKind
     ensures { result ≡ kind_led (lead byte) }
 {
     match lead_of(byte) {
