@@ -1,5 +1,5 @@
 -- A value applied to the flags that a map finds by their names.
-use Rattle.std.proofs.Common.{◌≡◌, ◌≢◌, ℕ, ◌<◌, Bool, true, false, not, ◌&&◌, List, [], ◌∷◌, ◌++◌, length, map, get_or, set, Option, Some, None, Bor, refl, sym, ap, ◌∙◌, subst, T, true≢false, arith}
+use Rattle.std.proofs.Common.{◌≡◌, ℕ, ◌<◌, Bool, true, false, not, ◌&&◌, List, [], ◌∷◌, ◌++◌, length, map, get_or, set, Some, None, Bor, refl, sym, ap, ◌∙◌, true≢false, arith}
 use Rattle.std.specs.Prelude.{IsTrue}
 use Rattle.std.specs.HashMap.{HashMap}
 use Rattle.std.specs.Str.{bytes_eq}
@@ -11,7 +11,7 @@ use Rattle.acfg_decls.specs.declared.declared.DeclaredFlag.{DeclaredFlag}
 use Rattle.acfg_decls.specs.Compile.{Frees, flag_of}
 use Rattle.acfg_decls.specs.Places.{Finds, WhereMade, at, names, with_point}
 use Rattle.acfg_decls.proofs.Blank.{blank, blank_declared}
-use Rattle.acfg_decls.proofs.Valued.{is_for, all_unaffected, one_affected}
+use Rattle.acfg_decls.proofs.Valued.{all_unaffected, one_affected}
 
 both : (a b : Bool) → a ≡ true → b ≡ true → (a && b) ≡ true
 both true b p q = q

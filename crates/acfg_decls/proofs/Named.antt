@@ -1,5 +1,5 @@
 -- A map that finds names at their places.
-use Rattle.std.proofs.Common.{◌≡◌, ℕ, ◌+◌, ◌<◌, ◌≤◌, List, [], ◌∷◌, ◌++◌, length, get_or, Option, Some, None, is_some, Bor, Bool, true, false, cond, refl, sym, ap, ◌∙◌, subst, ⊎_elim, ◌⊎◌, inl, inr, true≢false, Ordering, arith, length-append}
+use Rattle.std.proofs.Common.{◌≡◌, ℕ, ◌<◌, List, [], ◌∷◌, ◌++◌, length, get_or, Option, Some, None, is_some, Bor, Bool, true, false, cond, refl, sym, ap, ◌∙◌, ⊎_elim, ◌⊎◌, inl, inr, true≢false, arith, length-append}
 use Rattle.std.specs.Prelude.{Contains}
 use Rattle.std.specs.HashMap.{HashMap, Updates}
 use Rattle.std.specs.Map.{update}

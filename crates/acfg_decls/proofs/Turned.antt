@@ -1,8 +1,8 @@
 -- Fields that are taken from their last to their first.
-use Rattle.std.proofs.Common.{◌≡◌, ℕ, List, [], ◌∷◌, ◌++◌, Option, reverse, refl, sym, ap, ◌∙◌}
+use Rattle.std.proofs.Common.{◌≡◌, ℕ, List, [], ◌∷◌, ◌++◌, reverse, refl, sym, ap, ◌∙◌}
 use Rattle.std.specs.Prelude.{filter_map}
 use Rattle.std.specs.List.{flat_map}
-use Rattle.std.proofs.lemmas.List.{append-nil, append_assoc, reverse-append}
+use Rattle.std.proofs.lemmas.List.{append_assoc, reverse-append}
 use Rattle.acfg_text.specs.declared.tree.Item.{Item}
 use Rattle.acfg_text.specs.declared.tree.Value.{Value}
 use Rattle.acfg_decls.specs.declared.declared.DeclaredFlag.{DeclaredFlag}
