@@ -14,7 +14,7 @@ pub fn arrange(alloc: Global, flags: &mut Vec<Flag>) -> Result<(), AllocError>
     Ok(())
 }
 
-// The rank of each flag by its name. Rows hold the first bytes of a name, so that most comparisons look at nothing else.
+// The rank of each flag by its name. Rows hold the first bytes of a name: most comparisons look at nothing else.
 fn rank(alloc: Global, flags: &[Flag]) -> Result<Vec<usize>, AllocError>
     ensures { OnOk result (length flags.now ≡ length flags.now) }
 {
