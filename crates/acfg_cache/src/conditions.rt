@@ -44,7 +44,7 @@ fn build_flag(alloc: Global, counted: &Counted<'_>, names: Names) -> Result<Flag
         package: names.package,
         name: names.name,
         namespace: names.namespace,
-        description: Text::new(String::from_str(alloc, text_or_none(4, said))?),
+        description: Text::copy(alloc, text_or_none(4, said))?,
         bugs: texts(alloc, 5, said)?,
         enabled: has_number(6, 1, said),
         writable: has_number(7, 2, said),
@@ -142,7 +142,7 @@ fn is_point(trace: &[Leaf<'_>]) -> bool
 fn make_trace(alloc: Global, traces: &[Vec<Leaf<'_>>]) -> Result<Sequence<Point>, AllocError>
     ensures { IfOk result (λ points. points ≡ map point (messages_read traces.now)) }
 {
-    let mut points = Sequence::new(alloc);
+    let mut points = Sequence::from_vec(Vec::with_capacity(alloc, traces.len())?);
     for trace in traces {
         points.push(make_point(alloc, trace)?)?;
     }
@@ -153,7 +153,7 @@ fn make_point(alloc: Global, trace: &[Leaf<'_>]) -> Result<Point, AllocError>
     ensures { IfOk result (λ made. made ≡ point (leaves_read trace.now)) }
 {
     Ok(Point {
-        source: Text::new(String::from_str(alloc, text_or_none(1, trace))?),
+        source: Text::copy(alloc, text_or_none(1, trace))?,
         enabled: has_number(2, 1, trace),
         writable: has_number(3, 2, trace),
     })

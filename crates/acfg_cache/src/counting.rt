@@ -141,7 +141,7 @@ fn read_leaves<'a>(
     ensures err { IfErr result (λ fault. IfFault fault
         (FirstFails (message_tests index message (parts_read fields.now)))) }
 {
-    let mut leaves = Vec::new(alloc);
+    let mut leaves = Vec::with_capacity(alloc, fields.len())?;
     for field in fields {
         add_field(message, field, index, &mut leaves)?;
     }
@@ -247,7 +247,7 @@ pub fn count_fields<'a>(
     ensures err { IfErr result (λ fault. IfFault fault (FirstFails (fields_tests index (parts_read fields.now)))) }
 {
     let mut counted = Counted {
-        leaves: Vec::new(alloc),
+        leaves: Vec::with_capacity(alloc, fields.len())?,
         traces: Vec::new(alloc),
         metadata: Vec::new(alloc),
     };

@@ -74,10 +74,10 @@ pub fn number_behind(field: u64, leaves: &[Leaf<'_>], before: Option<u64>) -> Op
 pub fn texts(alloc: Global, field: u64, leaves: &[Leaf<'_>]) -> Result<Sequence<Text>, AllocError>
     ensures { IfOk result (λ all. all ≡ texts field (leaves_read leaves.now)) }
 {
-    let mut all = Sequence::new(alloc);
+    let mut all = Sequence::from_vec(Vec::with_capacity(alloc, 1)?);
     for leaf in leaves {
         if let Some(text) = text_at(field, *leaf) {
-            all.push(Text::new(String::from_str(alloc, text)?))?;
+            all.push(Text::copy(alloc, text)?)?;
         }
     }
     Ok(all)

@@ -28,7 +28,7 @@ pub fn merge(alloc: Global, lists: &[Flags], dedup: bool) -> Result<Flags, Merge
     ensures err { IfErr result (λ fault. IfClash fault (IsFirstClash lists.now dedup)) }
 {
     let mut rows = list_rows(alloc, lists)?;
-    sort_rows(&mut rows);
+    sort_rows(&mut rows)?;
     let flags = take_rows(alloc, &rows, dedup)?;
     Ok(Flags::from_sorted(flags))
 }
@@ -52,11 +52,12 @@ impl Row<'_> {
 }
 
 // Sorts rows by their flags' names, and then by their lists.
-fn sort_rows(rows: &mut Vec<Row<'_>>)
+fn sort_rows(rows: &mut Vec<Row<'_>>) -> Result<(), AllocError>
     ensures permutation { IsPermutation rows.old.items rows.new.items }
-    ensures sorted { IsSortedByKey (λ row. row_key (row_read row)) key_order rows.new.items }
+    ensures sorted { OnOk result (IsSortedByKey (λ row. row_key (row_read row)) key_order rows.new.items) }
 {
-    rows.sort_unstable_by(|row, other| row.compare(other));
+    rows.sort_by(|row, other| row.compare(other))?;
+    Ok(())
 }
 
 // The flags of all lists, one list after another.

@@ -1,7 +1,7 @@
 -- A value applied to the flags that a map finds by their names.
-use Rattle.std.proofs.Common.{◌≡◌, ◌≢◌, ℕ, ◌<◌, Bool, true, false, not, ◌&&◌, List, [], ◌∷◌, ◌++◌, length, map, get_or, set, Option, Some, None, Bor, refl, sym, ap, ◌∙◌, subst, T, true≢false, arith}
+use Rattle.std.proofs.Common.{◌≡◌, ℕ, ◌<◌, Bool, true, false, not, ◌&&◌, List, [], ◌∷◌, ◌++◌, length, map, get_or, set, Some, None, Bor, refl, sym, ap, ◌∙◌, true≢false, arith}
 use Rattle.std.specs.Prelude.{IsTrue}
-use Rattle.std.specs.BTreeMap.{BTreeMap}
+use Rattle.std.specs.HashMap.{HashMap}
 use Rattle.std.specs.Str.{bytes_eq}
 use Rattle.std.proofs.lemmas.List.{get_or-map, length-map, get_or_default}
 use Rattle.std.proofs.lemmas.Slice.Eq.{bytes_eq-Decides}
@@ -11,7 +11,7 @@ use Rattle.acfg_decls.specs.declared.declared.DeclaredFlag.{DeclaredFlag}
 use Rattle.acfg_decls.specs.Compile.{Frees, flag_of}
 use Rattle.acfg_decls.specs.Places.{Finds, WhereMade, at, names, with_point}
 use Rattle.acfg_decls.proofs.Blank.{blank, blank_declared}
-use Rattle.acfg_decls.proofs.Valued.{is_for, all_unaffected, one_affected}
+use Rattle.acfg_decls.proofs.Valued.{all_unaffected, one_affected}
 
 both : (a b : Bool) → a ≡ true → b ≡ true → (a && b) ≡ true
 both true b p q = q
@@ -39,7 +39,7 @@ both_true false b p = absurd (true≢false (sym p))
 apart : (a b : List ℕ) → (a ≡ b → ⊥) → bytes_eq a b ≡ false
 apart a b differ = elim (bytes_eq a b) as (λ t. bytes_eq a b ≡ t → t ≡ false) [ true ↦ λ is. absurd (differ ((bytes_eq-Decides a b).0 is)) | false ↦ λ is. refl ] refl
 
-module _ («package» : List ℕ) (places : BTreeMap (Bor (List ℕ)) ℕ) (flags : List Flag) (source : List ℕ) (value : FlagValue) (finds : Finds places (names flags)) where
+module _ {S : Type 0} («package» : List ℕ) (places : HashMap (Bor (List ℕ)) ℕ S) (flags : List Flag) (source : List ℕ) (value : FlagValue) (finds : Finds places (names flags)) where
   -- the name of a flag is that of its declaration
   module _ (container : List ℕ) (values : List (List ℕ × FlagValue)) (declared : List (List ℕ × DeclaredFlag)) (made : flags ≡ map (flag_of «package» container values) declared) where
     count : length flags ≡ length declared

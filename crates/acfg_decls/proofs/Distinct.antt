@@ -1,7 +1,7 @@
 -- Flags that a map finds by their names are compiled flags once they are sorted.
-use Rattle.std.proofs.Common.{◌≡◌, ℕ, zero, suc, ◌+◌, ◌<◌, Bool, true, false, cond, List, [], ◌∷◌, ◌++◌, length, map, get_or, count_by, IsPermutation, Some, Bor, refl, sym, ap, ◌∙◌, subst, inl, inr, arith}
+use Rattle.std.proofs.Common.{◌≡◌, ℕ, suc, ◌+◌, ◌<◌, Bool, true, false, cond, List, [], ◌∷◌, ◌++◌, length, map, get_or, count_by, IsPermutation, Some, Bor, refl, sym, ap, ◌∙◌, subst, inl, inr, arith}
 use Rattle.std.specs.Prelude.{All}
-use Rattle.std.specs.BTreeMap.{BTreeMap}
+use Rattle.std.specs.HashMap.{HashMap}
 use Rattle.std.specs.Ordering.{nat_cmp, eq_by_cmp}
 use Rattle.std.specs.Cmp.Lexicographic.{slice_cmp}
 use Rattle.std.proofs.lemmas.List.{append_cancel_left, get_or-map, length-map}
@@ -59,7 +59,7 @@ module _ {Y : Type 0} (p : Y → Bool) where
 named : (name other : List ℕ) → eq_by_cmp (slice_cmp nat_cmp) name other ≡ true → name ≡ other
 named name other same = (bytes_eq-Decides name other).0 (sym (is_eq-slice_cmp name other) ∙ same)
 
-pub distinct : («package» container : List ℕ) (values : List (List ℕ × FlagValue)) (declared : List (List ℕ × DeclaredFlag)) (flags : List Flag) (places : BTreeMap (Bor (List ℕ)) ℕ)
+pub distinct : {S : Type 0} («package» container : List ℕ) (values : List (List ℕ × FlagValue)) (declared : List (List ℕ × DeclaredFlag)) (flags : List Flag) (places : HashMap (Bor (List ℕ)) ℕ S)
     → flags ≡ map (flag_of «package» container values) declared → Finds places (names flags) → All IsLawful flags → AreNoFlags flags → ⊥
 distinct «package» container values declared flags places made finds lawful (inr (k, flag, within, is, unlawful)) =
     unlawful (subst IsLawful is (lawful k flag within))

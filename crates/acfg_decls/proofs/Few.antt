@@ -1,5 +1,5 @@
 -- Flags whose tests hold are no more than a package may have.
-use Rattle.std.proofs.Common.{◌≡◌, ℕ, ◌+◌, ◌≤◌, Bool, true, false, cond, List, [], ◌∷◌, ◌++◌, length, map, IsPermutation, refl, sym, ap, ◌∙◌, arith, length-append}
+use Rattle.std.proofs.Common.{ℕ, ◌+◌, ◌≤◌, Bool, true, false, cond, List, [], ◌∷◌, ◌++◌, length, map, arith, length-append}
 use Rattle.std.specs.List.{AllByRecursion, flat_map}
 use Rattle.std.specs.FinMap.{contains_key, from_entries, len, len-empty, len-insert}
 use Rattle.std.proofs.lemmas.List.{length-map}
@@ -13,7 +13,7 @@ use Rattle.acfg_decls.specs.declared.flags.Flag.{Flag}
 use Rattle.acfg_decls.specs.declared.declared.DeclaredFlag.{DeclaredFlag}
 use Rattle.acfg_decls.specs.declared.declared.DeclarationsFile.{DeclarationsFile}
 use Rattle.acfg_decls.specs.declared.declared.ValuesFile.{ValuesFile}
-use Rattle.acfg_decls.specs.Compile.{Compiles, Holds, Test, declarations_tests, declared, flag_of, flag_tests, file_tests, header_tests, most_flags, names_of, own_tests, sourced, tests_behind, New, Room}
+use Rattle.acfg_decls.specs.Compile.{Compiles, Holds, declarations_tests, declared, flag_of, flag_tests, file_tests, header_tests, names_of, own_tests, sourced, tests_behind, New, Room}
 
 pub holds_behind : {X : Type 0} (P : X → Type 0) (front rest : List X) → AllByRecursion P (front ++ rest) → AllByRecursion P rest
 holds_behind P [] rest holds = holds

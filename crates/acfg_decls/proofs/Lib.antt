@@ -10,6 +10,7 @@ mod Named
 pub mod OneAnswer
 mod System
 mod Tested
+mod Turned
 mod Twins
 pub mod Unique
 mod Valued

@@ -1,32 +1,30 @@
 -- A map that finds names at their places.
-use Rattle.std.proofs.Common.{◌≡◌, ℕ, ◌+◌, ◌<◌, ◌≤◌, List, [], ◌∷◌, ◌++◌, length, get_or, Option, Some, None, is_some, Bor, Bool, true, false, cond, refl, sym, ap, ◌∙◌, subst, ⊎_elim, ◌⊎◌, inl, inr, true≢false, Ordering, arith, length-append}
+use Rattle.std.proofs.Common.{◌≡◌, ℕ, ◌<◌, List, [], ◌∷◌, ◌++◌, length, get_or, Option, Some, None, is_some, Bor, Bool, true, false, cond, refl, sym, ap, ◌∙◌, ⊎_elim, ◌⊎◌, inl, inr, true≢false, arith, length-append}
 use Rattle.std.specs.Prelude.{Contains}
-use Rattle.std.specs.BTreeMap.{BTreeMap, Updates}
-use Rattle.std.specs.Cmp.Lexicographic.{slice_cmp}
+use Rattle.std.specs.HashMap.{HashMap, Updates}
 use Rattle.std.specs.Map.{update}
-use Rattle.std.specs.Ordering.{nat_cmp}
 use Rattle.std.specs.Str.{bytes_eq}
 use Rattle.std.proofs.lemmas.Bool.{cases_lt}
 use Rattle.std.proofs.lemmas.List.{get_or_default, get_or_append_left}
 use Rattle.std.proofs.Math.Seq.{get_or-append_seam}
-use Rattle.std.proofs.lemmas.Map.Text.{btree_map_updates_str}
+use Rattle.std.proofs.lemmas.Map.Text.{hash_map_updates_str}
 use Rattle.std.proofs.lemmas.Slice.Eq.{bytes_eq-Decides}
 use Rattle.acfg_decls.specs.Places.{Finds, at}
 
-pub known : (places : BTreeMap (Bor (List ℕ)) ℕ) (names : List (List ℕ)) (bytes : List ℕ) (i : ℕ) → Finds places names → at places bytes ≡ Some i → Contains names bytes
+pub known : {S : Type 0} (places : HashMap (Bor (List ℕ)) ℕ S) (names : List (List ℕ)) (bytes : List ℕ) (i : ℕ) → Finds places names → at places bytes ≡ Some i → Contains names bytes
 known places names bytes i finds found =
     let here = finds.only bytes i found in
     (i, here.0, get_or_default names i bytes [] here.0 ∙ here.1)
 
-pub unknown : (places : BTreeMap (Bor (List ℕ)) ℕ) (names : List (List ℕ)) (bytes : List ℕ) → Finds places names → at places bytes ≡ None → Contains names bytes → ⊥
+pub unknown : {S : Type 0} (places : HashMap (Bor (List ℕ)) ℕ S) (names : List (List ℕ)) (bytes : List ℕ) → Finds places names → at places bytes ≡ None → Contains names bytes → ⊥
 unknown places names bytes finds missed (i, within, is) =
     let here : get_or names i [] ≡ bytes = get_or_default names i [] bytes within ∙ is in
     let found = finds.there i within in
     let contrary = sym missed ∙ ap (at places) (sym here) ∙ found in
     cc
 
-abbrev pub text_cmp : Bor (List ℕ) → Bor (List ℕ) → Ordering
-text_cmp a b = slice_cmp nat_cmp a.now b.now
+abbrev pub text_eq : Bor (List ℕ) → Bor (List ℕ) → Bool
+text_eq a b = bytes_eq a.now b.now
 
 -- two texts are one, or they differ and the test says so
 same_or_apart : (a b : List ℕ) → ((a ≡ b) × (bytes_eq a b ≡ true)) ⊎ ((a ≡ b → ⊥) × (bytes_eq a b ≡ false))
@@ -36,12 +34,12 @@ same_or_apart a b = elim (bytes_eq a b) as (λ t. bytes_eq a b ≡ t → ((a ≡
 ] refl
 
 -- a name more
-pub finds_next : (places next : BTreeMap (Bor (List ℕ)) ℕ) (names : List (List ℕ)) (key : Bor (List ℕ)) → Finds places names → at places key.now ≡ None
-    → Updates text_cmp places next key (Some (length names)) → Finds next (names ++ key.now ∷ [])
+pub finds_next : {S : Type 0} (places next : HashMap (Bor (List ℕ)) ℕ S) (names : List (List ℕ)) (key : Bor (List ℕ)) → Finds places names → at places key.now ≡ None
+    → Updates text_eq places next key (Some (length names)) → Finds next (names ++ key.now ∷ [])
 finds_next places next names key finds missed updates = record { there = there; only = only }
   where
     after : (bytes : List ℕ) → at next bytes ≡ update bytes_eq (at places) key.now (Some (length names)) bytes
-    after = btree_map_updates_str key.now places next (Some (length names)) updates
+    after = hash_map_updates_str key.now places next (Some (length names)) updates
 
     there : (i : ℕ) → i < length (names ++ key.now ∷ []) → at next (get_or (names ++ key.now ∷ []) i []) ≡ Some i
     there i within = ⊎_elim
@@ -69,10 +67,10 @@ finds_next places next names key finds missed updates = record { there = there; 
         (same_or_apart key.now bytes)
 
 -- what the map had at a text before it was put in
-pub had : (places : BTreeMap (Bor (List ℕ)) ℕ) (names : List (List ℕ)) (bytes : List ℕ) (before : Option ℕ) → Finds places names → before ≡ at places bytes → is_some before ≡ true → Contains names bytes
+pub had : {S : Type 0} (places : HashMap (Bor (List ℕ)) ℕ S) (names : List (List ℕ)) (bytes : List ℕ) (before : Option ℕ) → Finds places names → before ≡ at places bytes → is_some before ≡ true → Contains names bytes
 had places names bytes (Some i) finds is some = known places names bytes i finds (sym is)
 had places names bytes None finds is some = absurd (true≢false (sym some))
 
-pub lacked : (places : BTreeMap (Bor (List ℕ)) ℕ) (bytes : List ℕ) (before : Option ℕ) → before ≡ at places bytes → is_some before ≡ false → at places bytes ≡ None
+pub lacked : {S : Type 0} (places : HashMap (Bor (List ℕ)) ℕ S) (bytes : List ℕ) (before : Option ℕ) → before ≡ at places bytes → is_some before ≡ false → at places bytes ≡ None
 lacked places bytes (Some i) is none = absurd (true≢false none)
 lacked places bytes None is none = sym is

@@ -1,8 +1,8 @@
 -- A lawful container is read as a lawful one.
-use Rattle.std.proofs.Common.{◌≡◌, ◌≢◌, ℕ, zero, suc, ◌+◌, ◌<◌, ◌≤◌, ◌⊎◌, inl, inr, Bool, true, false, length, codes, if◌then◌else◌, arith}
+use Rattle.std.proofs.Common.{ℕ, zero, suc, ◌<◌, inl, true, false, codes, if◌then◌else◌, arith}
 use Rattle.std.specs.Prelude.{slice_index}
 use Rattle.std.specs.Str.{bytes_eq}
-use Rattle.acfg_base.specs.Names.{IsContainer, IsLetter, IsNameByte, dot, underscore}
+use Rattle.acfg_base.specs.Names.{IsContainer, IsLetter}
 use Rattle.acfg_decls.specs.Compile.{container_read}
 
 letter : (i : ℕ) → i < 6 → IsLetter (slice_index (codes "system") i)

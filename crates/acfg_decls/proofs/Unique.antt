@@ -1,5 +1,5 @@
 -- A text is read in one way or refused with one fault, never both.
-use Rattle.std.proofs.Common.{◌≡◌, ℕ, List, [], ◌∷◌, Option, None, Some, refl, sym, ap, subst, ◌∙◌, ◌⊎◌, inl, inr}
+use Rattle.std.proofs.Common.{◌≡◌, ℕ, List, [], ◌∷◌, None, Some, refl, sym, ap, ◌∙◌, ◌⊎◌, inl, inr}
 use Rattle.acfg_text.specs.declared.tree.Tree.{Tree}
 use Rattle.acfg_text.specs.declared.fault.TextWhat.{TextWhat}
 use Rattle.acfg_text.specs.Spells.{Spells, FirstFault}
@@ -9,7 +9,6 @@ use Rattle.acfg_decls.specs.declared.declared.ValuesFile.{ValuesFile}
 use Rattle.acfg_decls.specs.declared.faults.DeclWhat.{DeclWhat}
 use Rattle.acfg_decls.specs.declared.faults.DeclWhat.TheVariants as what
 use Rattle.acfg_decls.specs.declared.messages.Message.{Message}
-use Rattle.acfg_decls.specs.declared.messages.Message.TheVariants.{FlagDeclarations, FlagValues}
 use Rattle.acfg_decls.specs.Reading.{Declares, Passes, Refuses, Sets, declarations_in, values_in}
 use Rattle.acfg_decls.specs.Walk.{depth, first, walk}
 

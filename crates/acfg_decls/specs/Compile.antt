@@ -1,5 +1,5 @@
 -- Compiling, as AOSP aconfig does it: which flags declarations and values make, and which of their tests fails first.
-use Rattle.std.specs.Prelude.{◌≡◌, ℕ, ◌+◌, ◌<◌, ◌==◌, Bool, true, false, not, IsTrue, List, [], ◌∷◌, ◌++◌, length, map}
+use Rattle.std.specs.Prelude.{◌≡◌, ℕ, ◌+◌, ◌<◌, Bool, false, not, IsTrue, List, [], ◌∷◌, ◌++◌, length, map}
 use Rattle.std.specs.Prelude.{filter, Any, Contains, IsPermutation, MatchOption, ◌⊎◌, Option, None, Some, if◌then◌else◌}
 use Rattle.std.specs.Prelude.{◌&&◌, codes}
 use Rattle.std.specs.List.{flat_map, AllByRecursion}

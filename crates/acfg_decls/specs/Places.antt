@@ -1,9 +1,8 @@
 -- Words of private functions: the places of flags by their names.
 use Rattle.std.specs.Prelude.{◌≡◌, ℕ, ◌<◌, List, [], ◌∷◌, ◌++◌, length, map, slice_index_or, Option, Some}
 use Rattle.std.specs.Borrow.{Bor}
-use Rattle.std.specs.BTreeMap.{BTreeMap, get_by}
-use Rattle.std.specs.Cmp.Lexicographic.{slice_cmp}
-use Rattle.std.specs.Ordering.{nat_cmp}
+use Rattle.std.specs.HashMap.{HashMap, get_by}
+use Rattle.std.specs.Str.{bytes_eq}
 use Rattle.acfg_decls.specs.declared.flags.Flag.{Flag}
 use Rattle.acfg_decls.specs.declared.declared.FlagValue.{FlagValue}
 use Rattle.acfg_decls.specs.declared.declared.DeclaredFlag.{DeclaredFlag}
@@ -13,11 +12,11 @@ abbrev pub names : List Flag → List (List ℕ)
 names flags = map (λ flag. flag.name) flags
 
 -- what a map has at these bytes
-abbrev pub at : BTreeMap (Bor (List ℕ)) ℕ → List ℕ → Option ℕ
-at places bytes = get_by (λ key. slice_cmp nat_cmp bytes key.now) places
+abbrev pub at : {S : Type 0} → HashMap (Bor (List ℕ)) ℕ S → List ℕ → Option ℕ
+at places bytes = get_by (λ key. bytes_eq bytes key.now) places
 
 -- The map finds each of these names at its place, and nothing else.
-pub record Finds (places : BTreeMap (Bor (List ℕ)) ℕ) (names : List (List ℕ)) : Type 0 where
+pub record Finds {S : Type 0} (places : HashMap (Bor (List ℕ)) ℕ S) (names : List (List ℕ)) : Type 0 where
   pub there : (i : ℕ) → i < length names → at places (slice_index_or names i []) ≡ Some i
   pub only : (bytes : List ℕ) (i : ℕ) → at places bytes ≡ Some i
       → (i < length names) × (slice_index_or names i [] ≡ bytes)

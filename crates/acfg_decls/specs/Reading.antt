@@ -1,5 +1,5 @@
 -- What files of declarations and values declare and set, and their first fault (AOSP aconfig's messages).
-use Rattle.std.specs.Prelude.{◌≡◌, ◌⊎◌, ℕ, ◌==◌, Bool, List, [], ◌∷◌, map, filter_map, Option, None, Some, unwrap_or}
+use Rattle.std.specs.Prelude.{◌≡◌, ◌⊎◌, ℕ, ◌==◌, List, [], ◌∷◌, filter_map, Option, None, Some, unwrap_or}
 use Rattle.std.specs.Prelude.{if◌then◌else◌, codes}
 use Rattle.std.specs.List.{flat_map}
 use Rattle.std.specs.Option.{option_and_then}
@@ -89,6 +89,10 @@ declared_flag place items = record {
 abbrev pub flag_at : Value → Option DeclaredFlag
 flag_at (value.Message place tree) = Some (declared_flag place (out-Tree tree).items)
 flag_at _ = None
+
+-- what fields of these values declare; a word of private functions
+abbrev pub flags_at : List (List Value) → List DeclaredFlag
+flags_at fields = flat_map (λ values. filter_map flag_at values) fields
 
 -- what a `flag_declarations` declares
 abbrev pub declarations_in : List ℕ → Tree → DeclarationsFile

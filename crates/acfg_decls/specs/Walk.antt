@@ -1,8 +1,8 @@
 -- The walk over messages in text order, depth first: each field's tests, and what a message lacks at its end.
-use Rattle.std.specs.Prelude.{◌≡◌, ℕ, zero, suc, ◌+◌, ◌-◌, ◌*◌, ◌<◌, ◌≤◌, ◌==◌, nat_lt, nat_le, Bool, true, false, ◌&&◌}
-use Rattle.std.specs.Prelude.{◌||◌, not, List, [], ◌∷◌, ◌++◌, map, Option, None, Some, is_some, if◌then◌else◌, codes}
+use Rattle.std.specs.Prelude.{ℕ, zero, suc, ◌+◌, ◌-◌, ◌*◌, ◌==◌, nat_lt, nat_le, Bool, true, false, ◌&&◌}
+use Rattle.std.specs.Prelude.{◌||◌, not, List, [], ◌∷◌, ◌++◌, Option, None, Some, is_some, if◌then◌else◌}
 use Rattle.std.specs.List.{flat_map, list_all, list_any}
-use Rattle.std.specs.Option.{option_map, option_and_then}
+use Rattle.std.specs.Option.{option_and_then}
 use Rattle.std.specs.Str.{bytes_eq}
 use Rattle.acfg_text.specs.declared.tree.Tree.{Tree, out-Tree}
 use Rattle.acfg_text.specs.declared.tree.Item.{Item, out-Item}
@@ -12,7 +12,7 @@ use Rattle.acfg_decls.specs.declared.faults.DeclWhat.{DeclWhat}
 use Rattle.acfg_decls.specs.declared.faults.DeclWhat.TheVariants as what
 use Rattle.acfg_decls.specs.declared.messages.Message.{Message}
 use Rattle.acfg_decls.specs.declared.messages.Often.{Often}
-use Rattle.acfg_decls.specs.declared.messages.Often.TheVariants.{Required, Optional, Repeated}
+use Rattle.acfg_decls.specs.declared.messages.Often.TheVariants.{Required, Repeated}
 use Rattle.acfg_decls.specs.declared.messages.Words.{Words}
 use Rattle.acfg_decls.specs.declared.messages.Form.{Form}
 use Rattle.acfg_decls.specs.declared.messages.Form.TheVariants.{String, Enum, Inner}

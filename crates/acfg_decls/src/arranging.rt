@@ -4,38 +4,58 @@ ghost use Rattle.std.specs.Prelude.{◌≡◌, ◌<◌, IsPermutation, OnOk, len
 
 use crate::flags::Flag;
 use std::alloc::{AllocError, Global};
-use std::collections::BTreeMap;
 
-/// Puts flags in the order of their names, which a map finds at their places.
-pub fn arrange(
-    alloc: Global,
-    places: &BTreeMap<&str, usize>,
-    flags: &mut Vec<Flag>,
-) -> Result<(), AllocError>
+/// Puts flags in the order of their names.
+pub fn arrange(alloc: Global, flags: &mut Vec<Flag>) -> Result<(), AllocError>
     ensures { OnOk result (IsPermutation flags.old.items flags.new.items) }
 {
-    let mut ranks = rank(alloc, places, flags.len())?;
+    let mut ranks = rank(alloc, flags.as_slice())?;
     permute(flags.as_mut_slice(), ranks.as_mut_slice());
     Ok(())
 }
 
-// The rank of each place among the names, of so many places.
-fn rank(
-    alloc: Global,
-    places: &BTreeMap<&str, usize>,
-    count: usize,
-) -> Result<Vec<usize>, AllocError>
-    ensures { OnOk result (count ≡ count) }
+// The rank of each flag by its name. Rows hold the first bytes of a name: most comparisons look at nothing else.
+fn rank(alloc: Global, flags: &[Flag]) -> Result<Vec<usize>, AllocError>
+    ensures { OnOk result (length flags.now ≡ length flags.now) }
 {
-    let mut ranks = vec![in alloc; 0; count]?;
-    let mut rank = 0_usize;
-    for (_, &place) in places {
+    let mut rows = Vec::with_capacity(alloc, flags.len())?;
+    for (place, flag) in flags.iter().enumerate() {
+        let name = flag.name.as_str();
+        let (front, next) = front_of(name.as_bytes());
+        rows.push((front, next, name, place))?;
+    }
+    rows.sort_unstable();
+    let mut ranks = vec![in alloc; 0; flags.len()]?;
+    for (rank, row) in rows.iter().enumerate() {
+        let place = row.3;
         if place < ranks.len() {
             ranks[place] = rank;
-            rank = rank.saturating_add(1);
         }
     }
     Ok(ranks)
+}
+
+// The first sixteen bytes of a name as two numbers, which compare as they do.
+fn front_of(name: &[u8]) -> (u64, u64)
+    ensures { length name.now ≡ length name.now }
+{
+    let mut front = 0_u64;
+    let mut next = 0_u64;
+    for at in 0..8 {
+        front = front.wrapping_mul(256).wrapping_add(byte_at(name, at));
+        next = next.wrapping_mul(256).wrapping_add(byte_at(name, at + 8));
+    }
+    (front, next)
+}
+
+fn byte_at(name: &[u8], at: usize) -> u64
+    ensures { result < 256 }
+{
+    if at < name.len() {
+        u64::from(name[at])
+    } else {
+        0
+    }
 }
 
 // Moves each flag to its rank: each turn finds one there, or puts one there.

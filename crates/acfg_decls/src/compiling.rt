@@ -14,8 +14,8 @@ use crate::faults::CompileFault;
 use crate::flags::{Flag, Flags};
 use crate::setting::set_values;
 use acfg_base::{ContainerName, PackageName};
-use std::alloc::Global;
-use std::collections::BTreeMap;
+use std::alloc::{AllocError, Global};
+use std::collections::HashMap;
 
 /// The most flags of a package.
 pub const MOST_FLAGS: usize = 65_535;
@@ -38,22 +38,33 @@ pub fn compile(
     ensures err { IfErr result (λ fault.
         IfIn fault (FailsToCompile «package».now container.now declarations.now values.now)) }
 {
-    let mut flags = Vec::new(alloc);
-    let mut places = BTreeMap::new(alloc);
+    let mut list = with_room(alloc, declarations)?;
+    let mut places = HashMap::new(alloc);
     declare_all(
         alloc,
         package,
         container,
         declarations,
         &mut places,
-        &mut flags,
+        &mut list,
     )?;
-    set_all(package, declarations.len(), values, &places, &mut flags)?;
-    arrange(alloc, &places, &mut flags)?;
-    match Flags::new(alloc, flags)? {
+    set_all(package, declarations.len(), values, &places, &mut list)?;
+    arrange(alloc, &mut list)?;
+    match Flags::new(alloc, list)? {
         Some(flags) => Ok(flags),
         None => unreachable!(),
     }
+}
+
+// No flags, with room for those that files declare.
+fn with_room(alloc: Global, files: &[Declarations]) -> Result<Vec<Flag>, AllocError>
+    ensures { IfOk result (λ list. list.items ≡ []) }
+{
+    let mut count = 0_usize;
+    for file in files {
+        count = count.saturating_add(file.file().flags.as_slice().len());
+    }
+    Vec::with_capacity(alloc, count.min(MOST_FLAGS))
 }
 
 // Declares the flags of each file behind those that are there.
@@ -62,7 +73,7 @@ fn declare_all<'a>(
     package: &PackageName,
     container: &ContainerName,
     files: &'a [Declarations],
-    places: &mut BTreeMap<&'a str, usize>,
+    places: &mut HashMap<&'a str, usize>,
     flags: &mut Vec<Flag>,
 ) -> Result<(), CompileFault>
     requires { Finds places.old (names flags.old.items) }
@@ -90,7 +101,7 @@ fn set_all(
     package: &PackageName,
     first: usize,
     files: &[Values],
-    places: &BTreeMap<&str, usize>,
+    places: &HashMap<&str, usize>,
     flags: &mut Vec<Flag>,
 ) -> Result<(), CompileFault>
     requires finds { Finds places.now (names flags.old.items) }

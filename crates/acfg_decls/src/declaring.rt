@@ -16,7 +16,7 @@ use acfg_base::{
     ContainerName, Name, PackageName, Sequence, Text, is_container, is_name, is_package,
 };
 use std::alloc::{AllocError, Global};
-use std::collections::BTreeMap;
+use std::collections::HashMap;
 
 /// Declares the flags of a file behind those that are there.
 pub fn declare<'a>(
@@ -24,7 +24,7 @@ pub fn declare<'a>(
     package: &PackageName,
     container: &ContainerName,
     file: &'a DeclarationsFile,
-    places: &mut BTreeMap<&'a str, usize>,
+    places: &mut HashMap<&'a str, usize>,
     flags: &mut Vec<Flag>,
 ) -> Result<(), DeclFault>
     requires { Finds places.old (names flags.old.items) }
@@ -52,7 +52,7 @@ fn declare_flag<'a>(
     container: &ContainerName,
     source: &Text,
     flag: &'a DeclaredFlag,
-    places: &mut BTreeMap<&'a str, usize>,
+    places: &mut HashMap<&'a str, usize>,
     flags: &mut Vec<Flag>,
 ) -> Result<(), DeclFault>
     requires { Finds places.old (names flags.old.items) }

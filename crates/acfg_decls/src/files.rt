@@ -38,7 +38,7 @@ pub fn read_declarations(
     let tree = read_tree(alloc, bytes)?;
     match first_fault(DEPTH, Message::FlagDeclarations, &tree) {
         Some((place, what)) => Err(DeclFault::At(place, what)),
-        None => Ok(Declarations::new(declarations_of(alloc, source, &tree)?)),
+        None => Ok(Declarations::new(declarations_of(alloc, source, tree)?)),
     }
 }
 

@@ -1,10 +1,10 @@
 //! Files of declarations and values, read of their trees.
 
-ghost use Rattle.std.specs.Prelude.{◌≡◌, ◌++◌, codes, filter_map, IfOk, OnOk};
+ghost use Rattle.std.specs.Prelude.{◌≡◌, [], ◌∷◌, ◌++◌, codes, filter_map, reverse, IfOk, OnOk};
 ghost use Rattle.std.specs.Option.{option_copied, option_and_then};
 ghost use Rattle.acfg_decls.specs.Reading.{all_in, declarations_in, declared_flag, flag_at, metadata_purpose};
 ghost use Rattle.acfg_decls.specs.Reading.{number_in, set_value, text_in, text_of, the_text, value_at, value_in};
-ghost use Rattle.acfg_decls.specs.Reading.{values_in};
+ghost use Rattle.acfg_decls.specs.Reading.{values_in, flags_at};
 
 use crate::declared::{DeclarationsFile, DeclaredFlag, FlagValue, Placed, ValuesFile};
 use crate::flags::Purpose;
@@ -12,23 +12,24 @@ use crate::messages::Words;
 use crate::scalars::enum_number;
 use acfg_base::{Sequence, Text};
 use acfg_text::{Item, Tree, Value};
+use sqlite_items::Items;
 use std::alloc::{AllocError, Global};
 
 /// What a declarations file has, of a tree in which the walk finds no fault.
 pub fn declarations_of(
     alloc: Global,
     source: &str,
-    tree: &Tree,
+    tree: Tree,
 ) -> Result<DeclarationsFile, AllocError>
-    ensures { IfOk result (λ file. file ≡ declarations_in source.now tree.now) }
+    ensures { IfOk result (λ file. file ≡ declarations_in source.now tree) }
 {
-    let items = tree.items.as_slice();
+    let Tree { items, end } = tree;
     Ok(DeclarationsFile {
         source: Text::copy(alloc, source)?,
-        package: the_text(alloc, "package", items)?,
-        container: text_in("container", items)?,
+        package: the_text(alloc, "package", items.as_slice())?,
+        container: text_in("container", items.as_slice())?,
         flags: flags_in(alloc, items)?,
-        end: tree.end,
+        end,
     })
 }
 
@@ -115,16 +116,38 @@ fn add_texts(values: &[Value], texts: &mut Sequence<Text>) -> Result<(), AllocEr
     Ok(())
 }
 
-fn flags_in(alloc: Global, items: &[Item]) -> Result<Sequence<DeclaredFlag>, AllocError>
-    ensures { IfOk result (λ flags. flags ≡ all_in flag_at (codes "flag") items.now) }
+// The flags of all fields. A field goes as soon as it is read, so that flags and tree never stand side by side.
+fn flags_in(alloc: Global, items: Items<Item>) -> Result<Sequence<DeclaredFlag>, AllocError>
+    ensures { IfOk result (λ flags. flags ≡ all_in flag_at (codes "flag") items) }
 {
-    let mut flags = Sequence::new(alloc);
-    for item in items {
-        if item.name.as_str() == "flag" {
-            add_flags(alloc, item.values.as_slice(), &mut flags)?;
-        }
+    let mut fields = fields_back(alloc, items)?;
+    let mut flags = Sequence::from_vec(Vec::with_capacity(alloc, fields.len())?);
+    while let Some(values) = fields.pop() {
+        add_flags(alloc, values.as_slice(), &mut flags)?;
     }
     Ok(flags)
+}
+
+// The values of the fields that are flags, from the last field to the first.
+fn fields_back(alloc: Global, mut items: Items<Item>) -> Result<Items<Items<Value>>, AllocError>
+    ensures { IfOk result (λ fields. flags_at (reverse fields) ≡ all_in flag_at (codes "flag") items) }
+{
+    let mut fields = Items::from_vec(Vec::with_capacity(alloc, items.len())?);
+    while let Some(item) = items.pop() {
+        keep_flag(item, &mut fields)?;
+    }
+    Ok(fields)
+}
+
+// Keeps the values of a field that is a flag.
+fn keep_flag(item: Item, fields: &mut Items<Items<Value>>) -> Result<(), AllocError>
+    ensures { OnOk result (flags_at (reverse fields.new)
+        ≡ all_in flag_at (codes "flag") (item ∷ []) ++ flags_at (reverse fields.old)) }
+{
+    if item.name.as_str() == "flag" {
+        fields.push(item.values)?;
+    }
+    Ok(())
 }
 
 fn add_flags(
@@ -180,7 +203,7 @@ fn purpose_in(items: &[Item]) -> Option<Purpose>
 fn set_in(alloc: Global, items: &[Item]) -> Result<Sequence<FlagValue>, AllocError>
     ensures { IfOk result (λ values. values ≡ all_in value_at (codes "flag_value") items.now) }
 {
-    let mut values = Sequence::new(alloc);
+    let mut values = Sequence::from_vec(Vec::with_capacity(alloc, items.len())?);
     for item in items {
         if item.name.as_str() == "flag_value" {
             add_set(alloc, item.values.as_slice(), &mut values)?;

@@ -11,13 +11,13 @@ use crate::faults::{DeclFault, DeclWhat};
 use crate::flags::{Flag, Point};
 use acfg_base::{PackageName, Text, is_name, is_package};
 use std::alloc::AllocError;
-use std::collections::BTreeMap;
+use std::collections::HashMap;
 
 /// Sets the values of a file behind those that were set.
 pub fn set_values(
     package: &PackageName,
     file: &ValuesFile,
-    places: &BTreeMap<&str, usize>,
+    places: &HashMap<&str, usize>,
     flags: &mut Vec<Flag>,
 ) -> Result<(), DeclFault>
     requires { Finds places.now (names flags.old.items) }
@@ -42,7 +42,7 @@ fn set_value(
     package: &PackageName,
     source: &Text,
     value: &FlagValue,
-    places: &BTreeMap<&str, usize>,
+    places: &HashMap<&str, usize>,
     flags: &mut Vec<Flag>,
 ) -> Result<(), DeclFault>
     requires { Finds places.now (names flags.old.items) }

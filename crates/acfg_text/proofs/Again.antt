@@ -1,14 +1,10 @@
 -- What is printed of a derivation is read again as the same, places aside.
-use Rattle.std.proofs.Common.{◌≡◌, ℕ, zero, suc, ◌+◌, ◌<◌, Bool, true, false, List, [], ◌∷◌, ◌++◌, length, map, refl, sym, subst, ap, ◌∙◌, arith, append_assoc, append-nil, length-append}
-use Rattle.std.specs.Prelude.{◌≤◌, ◌||◌, nat_eq, codes, if◌then◌else◌}
+use Rattle.std.proofs.Common.{◌≡◌, ℕ, ◌+◌, Bool, true, false, List, [], ◌∷◌, ◌++◌, length, map, refl, sym, subst, ap, ◌∙◌, arith, append_assoc, append-nil, length-append}
+use Rattle.std.specs.Prelude.{◌||◌, nat_eq, codes, if◌then◌else◌}
 use Rattle.std.specs.List.{AllByRecursion, flat_map}
-use Rattle.std.specs.Str.{is_utf8}
 use Rattle.std.proofs.lemmas.List.{map-append}
-use Rattle.acfg_text.specs.declared.classes.Class.{Class}
 use Rattle.acfg_text.specs.declared.classes.Class.TheVariants as c
-use Rattle.acfg_text.specs.declared.classes.Bracket.{Bracket}
-use Rattle.acfg_text.specs.declared.classes.Bracket.TheVariants.{Curly, Angle}
-use Rattle.acfg_text.specs.declared.token.TokenKind.{TokenKind}
+use Rattle.acfg_text.specs.declared.classes.Bracket.TheVariants.{Curly}
 use Rattle.acfg_text.specs.declared.token.TokenKind.TheVariants.{Word, Number, Quoted, Symbol}
 use Rattle.acfg_text.specs.declared.bytes.Lead.TheVariants as leads
 use Rattle.acfg_text.specs.declared.tree.Tree.{Tree}
@@ -17,16 +13,15 @@ use Rattle.acfg_text.specs.declared.tree.Value.{Value}
 use Rattle.acfg_text.specs.declared.tree.Value.TheVariants as v
 use Rattle.acfg_text.specs.Trees.{item, tree}
 use Rattle.acfg_text.specs.Terminals.{Lexeme, lexeme, symbol, Terminal, terminal, terminal_of}
-use Rattle.acfg_text.specs.Escapes.{spelled}
-use Rattle.acfg_text.specs.Lexes.{is_white, is_letter, is_digit, is_word, is_number, is_quote, is_symbol, lead, IsToken, IsLongest, Lexed, here, blank, comment, token, Lexes}
-use Rattle.acfg_text.specs.Grammar.{Room, free, left, Enters, enters_free, enters_left, Takes, Texts, last_text, more_texts, Scalar, word_is, number_is, text_is, Ends, bare_end, comma_end, semicolon_end, Fields, no_fields, more_fields, Field, field_is, Held, holds_scalar, holds_message, holds_colon_message, holds_list, holds_colon_list, Message, message_is, Listed, empty_list, filled_list, Elements, last_element, more_elements, Element, scalar_element, message_element}
+use Rattle.acfg_text.specs.Lexes.{is_white, is_letter, is_digit, is_word, is_number, is_quote, is_symbol, lead, IsToken, Lexed, here, blank, comment, token, Lexes}
+use Rattle.acfg_text.specs.Grammar.{Room, free, left, Enters, enters_free, enters_left, Takes, Texts, last_text, Scalar, word_is, number_is, text_is, bare_end, Fields, no_fields, more_fields, Field, field_is, Held, holds_scalar, holds_message, holds_colon_message, holds_list, holds_colon_list, Message, message_is, Listed, empty_list, filled_list, Elements, last_element, more_elements, Element, scalar_element, message_element}
 use Rattle.acfg_text.specs.Spells.{Spells}
-use Rattle.acfg_text.specs.Printed.{Shown, scalar, quoted, braced, held, separated, bracketed, shown, printed_item, printed_fields, printed}
+use Rattle.acfg_text.specs.Printed.{scalar, quoted, braced, held, separated, bracketed, shown, printed_item, printed}
 use Rattle.acfg_text.specs.Unplaced.{unplaced_value, unplaced_item, unplaced}
 use Rattle.acfg_text.proofs.Lexing.{Stops, longest_word, longest_number, longest_symbol, longest_quoted}
 use Rattle.acfg_text.proofs.Reprinted.{quote_leads, quoted_token, quoted_spelled}
 use Rattle.acfg_text.proofs.Utf8Bytes.{AreBytes, utf8_bytes}
-use Rattle.acfg_text.proofs.Soundness.{IsSound, Sound, lexed_sound, scalar_sound, fields_sound, field_sound, held_sound, message_sound, listed_sound, element_sound}
+use Rattle.acfg_text.proofs.Soundness.{Sound, lexed_sound, field_sound, element_sound}
 use Rattle.acfg_text.proofs.Folded.{shown_word, shown_number, shown_text, shown_message, printed_item_is, printed_fields_is, unplaced_word, unplaced_number, unplaced_text, unplaced_message, unplaced_item_is, unplaced_is}
 
 -- Printed text is read again: its tokens, where they end, and what they are read as, whatever follows.

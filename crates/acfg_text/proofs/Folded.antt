@@ -1,5 +1,5 @@
 -- What is printed of values, items and trees, and what they are without places, by their parts.
-use Rattle.std.proofs.Common.{◌≡◌, ◌∙◌, ap, sym, refl, ℕ, Bool, true, false, List, [], ◌∷◌, ◌++◌, map}
+use Rattle.std.proofs.Common.{◌≡◌, ◌∙◌, ap, sym, ℕ, Bool, true, List, ◌++◌, map}
 use Rattle.acfg_text.specs.declared.tree.Tree.{Tree, fold-roll-Tree}
 use Rattle.acfg_text.specs.declared.tree.Item.{Item, fold-roll-Item}
 use Rattle.acfg_text.specs.declared.tree.Value.{Value, fold-roll-Value}

@@ -1,14 +1,13 @@
 -- Words, numbers and symbols are ASCII.
-use Rattle.std.proofs.Common.{◌≡◌, ℕ, zero, suc, ◌<◌, Bool, true, false, List, [], ◌∷◌, map, refl, sym, subst, arith}
-use Rattle.std.specs.Prelude.{◌≤◌, ◌&&◌, nat_eq, nat_le}
-use Rattle.std.specs.List.{AllByRecursion, list_all}
+use Rattle.std.proofs.Common.{◌≡◌, ℕ, zero, suc, ◌<◌, Bool, true, false, List, [], ◌∷◌, drop, refl, sym, subst, arith}
+use Rattle.std.specs.Prelude.{◌≤◌, ◌^◌, ◌&&◌, length, nat_eq, nat_le}
+use Rattle.std.specs.List.{All, AllByRecursion, list_all}
 use Rattle.std.specs.Str.{IsAscii}
-use Rattle.std.proofs.lemmas.List.Elements.{All-from_recursion}
+use Rattle.std.proofs.lemmas.List.Elements.{All-from_recursion, All-head, All-drop}
 use Rattle.std.proofs.lemmas.Bool.Decides.{nat_tests}
-use Rattle.acfg_text.specs.declared.token.Token.{Token}
 use Rattle.acfg_text.specs.declared.token.TokenKind.{TokenKind}
 use Rattle.acfg_text.specs.declared.token.TokenKind.TheVariants.{Word, Number, Quoted, Symbol}
-use Rattle.acfg_text.specs.Terminals.{Lexeme, lexeme_of, class_of}
+use Rattle.acfg_text.specs.Terminals.{Lexeme, class_of}
 use Rattle.acfg_text.specs.TextFaults.{is_quoted}
 use Rattle.acfg_text.specs.Lexes.{is_white, is_letter, is_digit, is_word, is_number, is_quote, is_symbol, lead, IsToken, Lexed, here, blank, comment, token, Lexes}
 use Rattle.acfg_text.specs.Reading.{IsPlain, ArePlain}
@@ -88,9 +87,9 @@ lexed_plain (blank leads lexed) = lexed_plain lexed
 lexed_plain (comment body text leads ends lexed) = lexed_plain lexed
 lexed_plain (token {kind = kind} bytes text is longest lexed) = (λ unq. token_plain kind bytes is unq, lexed_plain lexed)
 
-tokens_plain : (found : List Token) → AllByRecursion PlainLexeme (map lexeme_of found) → AllByRecursion IsPlain found
-tokens_plain [] all = tt
-tokens_plain (t ∷ found) all = (all.0, tokens_plain found all.1)
+pub are_plain : (text : List ℕ) (found : List Lexeme) → Lexes text found → length found < 2 ^ 64 → ArePlain found
+are_plain text found lexes few = (All-from_recursion IsPlain found (lexed_plain lexes), few)
 
-pub are_plain : (text : List ℕ) (found : List Token) → Lexes text (map lexeme_of found) → ArePlain found
-are_plain text found lexes = All-from_recursion IsPlain found (tokens_plain found (lexed_plain lexes))
+-- a token of the list is plain
+pub plain_there : (tokens : List Lexeme) (at : ℕ) (l : Lexeme) (rest : List Lexeme) → ArePlain tokens → drop at tokens ≡ l ∷ rest → IsPlain l
+plain_there tokens at l rest plain is = All-head IsPlain l rest (subst (All IsPlain) is (All-drop IsPlain at tokens plain.0))

@@ -1,12 +1,12 @@
 -- A text that is printed in quotes is a quoted token that stands for the same bytes.
-use Rattle.std.proofs.Common.{◌≡◌, ℕ, zero, suc, ◌+◌, ◌*◌, ◌<◌, ◌/◌, ◌%◌, Bool, true, false, List, [], ◌∷◌, ◌++◌, length, Option, Some, None, refl, sym, subst, ap, ◌∙◌, arith, cond, append_assoc}
+use Rattle.std.proofs.Common.{◌≡◌, ℕ, zero, suc, ◌+◌, ◌*◌, ◌<◌, ◌/◌, ◌%◌, Bool, true, false, List, [], ◌∷◌, ◌++◌, Some, refl, sym, subst, ap, ◌∙◌, arith, cond, append_assoc}
 use Rattle.std.specs.Prelude.{◌≤◌, ◌&&◌, nat_le, nat_eq, codes}
-use Rattle.std.specs.List.{AllByRecursion, flat_map}
+use Rattle.std.specs.List.{flat_map}
 use Rattle.std.proofs.lemmas.Bool.Decides.{nat_tests}
 use Rattle.acfg_text.specs.declared.token.TokenKind.TheVariants.{Quoted}
 use Rattle.acfg_text.specs.declared.bytes.Lead.TheVariants.{Token}
 use Rattle.acfg_text.specs.declared.quoted.Within.TheVariants.{Close, Backslash, Plain}
-use Rattle.acfg_text.specs.declared.quoted.Escape.TheVariants.{Byte, Octal}
+use Rattle.acfg_text.specs.declared.quoted.Escape.TheVariants.{Octal}
 use Rattle.acfg_text.specs.Escapes.{is_octal, digit_value, digits, number, escape_by, escape_as, octal, escape, within, value_behind, spelled}
 use Rattle.acfg_text.specs.Lexes.{is_white, is_letter, is_digit, is_quote, lead, Closes, closed, plain_byte, escaped, IsToken}
 use Rattle.acfg_text.specs.Printed.{printed_byte, quoted}

@@ -1,5 +1,5 @@
 -- Words and numbers among the terminals of a text are words and numbers, also behind what has been read of them.
-use Rattle.std.proofs.Common.{◌≡◌, ℕ, Bool, true, false, List, [], ◌∷◌, map, refl, cond}
+use Rattle.std.proofs.Common.{ℕ, Bool, true, false, List, map, cond}
 use Rattle.std.specs.Prelude.{nat_eq, slice_index}
 use Rattle.std.specs.List.{AllByRecursion}
 use Rattle.acfg_text.specs.declared.classes.Class.{Class}
@@ -9,7 +9,7 @@ use Rattle.acfg_text.specs.declared.token.TokenKind.{TokenKind}
 use Rattle.acfg_text.specs.declared.token.TokenKind.TheVariants.{Word, Number, Quoted, Symbol}
 use Rattle.acfg_text.specs.declared.tree.Item.{Item}
 use Rattle.acfg_text.specs.declared.tree.Value.{Value}
-use Rattle.acfg_text.specs.Terminals.{Lexeme, lexeme, symbol, class_of, Terminal, terminal_of}
+use Rattle.acfg_text.specs.Terminals.{Lexeme, symbol, class_of, Terminal, terminal_of}
 use Rattle.acfg_text.specs.Lexes.{IsToken, Lexed, here, blank, comment, token}
 use Rattle.acfg_text.specs.Grammar.{Room, Texts, last_text, more_texts, Scalar, word_is, number_is, text_is, Ends, bare_end, comma_end, semicolon_end, Fields, no_fields, more_fields, Field, field_is, Held, holds_scalar, holds_message, holds_colon_message, holds_list, holds_colon_list, Message, message_is, Listed, empty_list, filled_list, Elements, last_element, more_elements, Element, scalar_element, message_element}
 

@@ -12,7 +12,7 @@ use Rattle.acfg_text.specs.Terminals.{Terminal, terminal}
 use Rattle.acfg_text.specs.Escapes.{spelled}
 use Rattle.acfg_text.specs.Grammar.{HasForm, Begins, Derives, Texts, last_text, more_texts}
 use Rattle.acfg_text.specs.TextFaults.{is_open, is_quoted, nesting, EndsUnquoted, BeginsUnquoted, Faulty, stray, early, deep, bad_text, IsFirst, Rising}
-use Rattle.acfg_text.specs.Machine.{Head, Slot, Frame, Mode, at_field, behind_field, behind_name, behind_colon, in_list, at_item, behind_item, in_text, State, st, Fault, fault, same, plain, refused, text_fault, depth_fault, step_by, step, finish, carry, run, walk, begin}
+use Rattle.acfg_text.specs.Machine.{Head, Slot, Frame, Mode, at_field, behind_field, behind_name, behind_colon, in_list, at_item, behind_item, in_text, State, st, Fault, fault, plain, refused, text_fault, depth_fault, step_by, step, finish, carry, run, walk, begin}
 use Rattle.acfg_text.proofs.Viable.{run_append}
 use Rattle.acfg_text.proofs.Leading.{derives_run, first_text}
 use Rattle.acfg_text.proofs.Resting.{run_form}

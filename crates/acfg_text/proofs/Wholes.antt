@@ -1,16 +1,14 @@
 -- Texts as wholes: one tree or one first fault.
 use Rattle.std.proofs.Common.{◌≡◌, ℕ, ◌⊎◌, inl, inr, true, List, [], length, map, Result, Ok, Err, refl, sym, ap, ◌∙◌, subst}
-use Rattle.std.proofs.lemmas.Simd.{map-map}
 use Rattle.acfg_text.specs.declared.classes.Class.{Class}
 use Rattle.acfg_text.specs.declared.classes.Class.TheVariants as c
-use Rattle.acfg_text.specs.declared.token.Token.{Token}
 use Rattle.acfg_text.specs.declared.terminals.Seen.{Seen}
 use Rattle.acfg_text.specs.declared.tree.Tree.{Tree}
 use Rattle.acfg_text.specs.declared.tree.Item.{Item}
 use Rattle.acfg_text.specs.declared.fault.TextWhat.{TextWhat}
 use Rattle.acfg_text.specs.declared.fault.TextWhat.TheVariants.{Unexpected}
 use Rattle.acfg_text.specs.Trees.{tree}
-use Rattle.acfg_text.specs.Terminals.{Lexeme, lexeme_of, Terminal, terminal_of}
+use Rattle.acfg_text.specs.Terminals.{Lexeme, Terminal, terminal_of}
 use Rattle.acfg_text.specs.Grammar.{Derives}
 use Rattle.acfg_text.specs.TextFaults.{IsFirst}
 use Rattle.acfg_text.specs.Lexes.{Lexes, LexFault}
@@ -26,7 +24,7 @@ use Rattle.acfg_text.proofs.Stopping.{apart, first_fault, one_first}
 use Rattle.acfg_text.proofs.Parts.{fails_step}
 
 -- the reader's whole run
-pub all_read : (tokens : List Token) (end at : ℕ) (items : List Item) → ReadsFields tokens end 0 0 items at → ahead tokens at ≡ [] → ReadsAll tokens end items
+pub all_read : (tokens : List Lexeme) (end at : ℕ) (items : List Item) → ReadsFields tokens end 0 0 items at → ahead tokens at ≡ [] → ReadsAll tokens end items
 unfolding run
 all_read tokens end at items fields none = fields.leads [] refl ∙ ap (λ l. run true end l (st at_field items [])) none
 
@@ -34,32 +32,32 @@ stray_end : (class : Class) (t : Terminal) (items : List Item) → (class ≡ c.
 stray_end c.Word t items x = absurd (x refl)
 stray_end _ t items x = refl
 
-pub all_stray : (tokens : List Token) (end at : ℕ) (items : List Item) (t : Seen) → ReadsFields tokens end 0 0 items at → IsNext tokens at t → FailsAll tokens end t.place Unexpected
+pub all_stray : (tokens : List Lexeme) (end at : ℕ) (items : List Item) (t : Seen) → ReadsFields tokens end 0 0 items at → IsNext tokens at t → FailsAll tokens end t.place Unexpected
 all_stray tokens end at items t fields next =
     let no_word : t.class ≡ c.Word → ⊥ = subst NoField next fields.ends in
     fields.leads [] refl ∙ fails_step tokens end at t (st at_field items []) t.place Unexpected next (stray_end t.class (seen_of t) items no_word)
 
-pub all_fails : (tokens : List Token) (end p : ℕ) (w : TextWhat) → FailsFields tokens end 0 0 p w → FailsAll tokens end p w
+pub all_fails : (tokens : List Lexeme) (end p : ℕ) (w : TextWhat) → FailsFields tokens end 0 0 p w → FailsAll tokens end p w
 all_fails tokens end p w fails = fails [] refl
 
 -- what the tokens and their reading say of the text
-pub spells : (text : List ℕ) (found : List Token) (items : List Item) (read : Tree) → Lexes text (map lexeme_of found) → ReadsAll found (length text) items → read ≡ tree items (length text) → Spells text read
+pub spells : (text : List ℕ) (found : List Lexeme) (items : List Item) (read : Tree) → Lexes text found → ReadsAll found (length text) items → read ≡ tree items (length text) → Spells text read
 spells text found items read lexes reads is =
     record {
-      found = map lexeme_of found;
+      found = found;
       items = items;
       lexes = lexes;
-      derives = run_derives (length text) (map terminal_of (map lexeme_of found)) items (ap (λ l. run true (length text) l begin) (map-map terminal_of lexeme_of found) ∙ reads);
+      derives = run_derives (length text) (map terminal_of found) items reads;
       is = is;
     }
 
-pub refuses : (text : List ℕ) (found : List Token) (p : ℕ) (w : TextWhat) → Lexes text (map lexeme_of found) → FailsAll found (length text) p w → FirstFault text p w
+pub refuses : (text : List ℕ) (found : List Lexeme) (p : ℕ) (w : TextWhat) → Lexes text found → FailsAll found (length text) p w → FirstFault text p w
 refuses text found p w lexes fails =
     inr (record {
-      found = map lexeme_of found;
+      found = found;
       lexes = lexes;
-      first = first_fault (length text) (map terminal_of (map lexeme_of found)) (fault p w) (lexes_rising text (map lexeme_of found) lexes)
-          (ap (λ l. run true (length text) l begin) (map-map terminal_of lexeme_of found) ∙ fails);
+      first = first_fault (length text) (map terminal_of found) (fault p w) (lexes_rising text found lexes)
+          fails;
     })
 
 -- at most one

@@ -2,6 +2,7 @@ pub mod Escapes
 pub mod Grammar
 pub mod Lexes
 pub mod Machine
+pub mod Marked
 pub mod Meanings
 pub mod Printed
 pub mod Reading

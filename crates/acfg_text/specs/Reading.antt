@@ -1,10 +1,9 @@
 -- Words of the reader's private contracts and of proofs alone: what its parts read, as runs of the machine.
-use Rattle.std.specs.Prelude.{◌≡◌, ℕ, ◌+◌, Bool, true, false, List, [], ◌∷◌, ◌++◌, length, map, drop, Ok, Err}
+use Rattle.std.specs.Prelude.{◌≡◌, ℕ, ◌+◌, ◌<◌, ◌^◌, Bool, true, false, List, [], ◌∷◌, ◌++◌, length, map, drop, Ok, Err}
 use Rattle.std.specs.List.{All}
 use Rattle.std.specs.Str.{IsAscii}
 use Rattle.acfg_text.specs.declared.classes.Class.{Class}
 use Rattle.acfg_text.specs.declared.classes.Class.TheVariants as c
-use Rattle.acfg_text.specs.declared.token.Token.{Token}
 use Rattle.acfg_text.specs.declared.terminals.Seen.{Seen}
 use Rattle.acfg_text.specs.declared.classes.Bracket.{Bracket}
 use Rattle.acfg_text.specs.declared.tree.Item.{Item}
@@ -12,31 +11,32 @@ use Rattle.acfg_text.specs.declared.tree.Value.TheVariants as v
 use Rattle.acfg_text.specs.declared.tree.Value.{Value}
 use Rattle.acfg_text.specs.declared.fault.TextWhat.{TextWhat}
 use Rattle.acfg_text.specs.Trees.{item, tree}
-use Rattle.acfg_text.specs.Terminals.{lexeme_of, Terminal, terminal, terminal_of}
+use Rattle.acfg_text.specs.Terminals.{Lexeme, Terminal, terminal, terminal_of}
 use Rattle.acfg_text.specs.TextFaults.{is_quoted}
 use Rattle.acfg_text.specs.Machine.{Head, Slot, among, Frame, Mode, at_field, behind_field, behind_name, behind_colon}
 use Rattle.acfg_text.specs.Machine.{in_list, at_item, behind_item, in_text, State, st, fault, settle, close_list, run}
 use Rattle.acfg_text.specs.Machine.{begin, Waits}
 
-abbrev pub terminal_at : Token → Terminal
-terminal_at token = terminal_of (lexeme_of token)
+abbrev pub terminal_at : Lexeme → Terminal
+terminal_at token = terminal_of token
 
 abbrev pub seen_of : Seen → Terminal
 seen_of t = terminal t.class t.place t.text.now
 
 -- the terminals from a token on
-abbrev pub ahead : List Token → ℕ → List Terminal
+abbrev pub ahead : List Lexeme → ℕ → List Terminal
 ahead tokens at = map terminal_at (drop at tokens)
 
 -- what a word or a number is made of
-abbrev pub IsPlain : Token → Type 0
-IsPlain token = is_quoted (terminal_at token).class ≡ false → IsAscii token.text.now
+abbrev pub IsPlain : Lexeme → Type 0
+IsPlain token = is_quoted (terminal_at token).class ≡ false → IsAscii token.text
 
-abbrev pub ArePlain : List Token → Type 0
-ArePlain tokens = All IsPlain tokens
+-- tokens that can be read: each is plain, and their number is one of the machine's
+abbrev pub ArePlain : List Lexeme → Type 0
+ArePlain tokens = All IsPlain tokens × (length tokens < 2 ^ 64)
 
 -- this token stands there
-abbrev pub IsNext : List Token → ℕ → Seen → Type 0
+abbrev pub IsNext : List Lexeme → ℕ → Seen → Type 0
 IsNext tokens at t = ahead tokens at ≡ seen_of t ∷ ahead tokens (at + 1)
 
 -- no field begins here, and no quoted token stands here
@@ -48,10 +48,10 @@ abbrev pub NoQuote : List Terminal → Type 0
 NoQuote [] = Unit {0}
 NoQuote (t ∷ ts) = is_quoted t.class ≡ false
 
-abbrev pub IsQuoteAt : List Token → ℕ → List ℕ → Type 0
+abbrev pub IsQuoteAt : List Lexeme → ℕ → List ℕ → Type 0
 IsQuoteAt tokens at text = (p : ℕ) × (ahead tokens at ≡ terminal c.Quoted p text ∷ ahead tokens (at + 1))
 
-abbrev pub ClosesList : List Token → ℕ → Type 0
+abbrev pub ClosesList : List Lexeme → ℕ → Type 0
 ClosesList tokens at =
     (p : ℕ) × (text : List ℕ) × (ahead tokens at ≡ terminal c.CloseList p text ∷ ahead tokens (at + 1))
 
@@ -59,7 +59,7 @@ abbrev pub NoClosing : List Terminal → Type 0
 NoClosing [] = Unit {0}
 NoClosing (t ∷ ts) = t.class ≡ c.CloseList → ⊥
 
-abbrev pub ClosesNoList : List Token → ℕ → Type 0
+abbrev pub ClosesNoList : List Lexeme → ℕ → Type 0
 ClosesNoList tokens at = NoClosing (ahead tokens at)
 
 -- neither a message nor a list opens with it
@@ -69,7 +69,7 @@ IsNoOpening c.OpenList = ⊥
 IsNoOpening _ = Unit {0}
 
 -- a field's end leads to where the next field is due
-abbrev pub SkipsEnd : List Token → ℕ → ℕ → Type 0
+abbrev pub SkipsEnd : List Lexeme → ℕ → ℕ → Type 0
 SkipsEnd tokens at next =
     (end : ℕ) (top : List Item) (frames : List Frame)
     → run true end (ahead tokens at) (st behind_field top frames)
@@ -80,7 +80,7 @@ abbrev pub list_state : Bool → Head → Bool → List Value → List Item → 
 list_state true h colon values top frames = st (at_item h colon values) top frames
 list_state false h colon values top frames = close_list h values top frames
 
-module _ (tokens : List Token) (end : ℕ) where
+module _ (tokens : List Lexeme) (end : ℕ) where
   -- the machine goes from one state at a token to another one at a later token
   abbrev pub Leads : ℕ → State → ℕ → State → Type 0
   Leads from s at r = run true end (ahead tokens from) s ≡ run true end (ahead tokens at) r

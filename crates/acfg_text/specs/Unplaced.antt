@@ -1,5 +1,4 @@
 -- Trees whose places don't count.
-use Rattle.std.specs.Prelude.{ℕ, List}
 use Rattle.acfg_text.specs.declared.tree.Tree.{Tree, fold-Tree}
 use Rattle.acfg_text.specs.declared.tree.Item.{Item, fold-Item}
 use Rattle.acfg_text.specs.declared.tree.Value.{Value, fold-Value}

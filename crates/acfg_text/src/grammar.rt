@@ -14,9 +14,10 @@ ghost use Rattle.acfg_text.specs.Reading.{IsNoOpening, FailsScalar, Joins, NoQuo
 
 use crate::classes::{Bracket, Class};
 use crate::fault::{TextFault, TextWhat};
+use crate::marks::Tokens;
 use crate::quoted::{plain_value, push_spelled};
-use crate::terminals::{Seen, field_name, peek, skip_end, text_of};
-use crate::token::Token;
+use crate::terminals::{Seen, field_name, is_of_another_kind, peek, skip_end, text_of};
+use crate::token::TokenKind;
 use crate::tree::{Item, Tree, Value};
 use acfg_base::Text;
 use sqlite_items::Items;
@@ -30,7 +31,7 @@ const MOST_OPEN: usize = 32;
 #[cycle(fields)]
 pub fn read_fields(
     alloc: Global,
-    tokens: &[Token<'_>],
+    tokens: &Tokens<'_>,
     end: usize,
     from: usize,
     depth: usize,
@@ -55,7 +56,7 @@ pub fn read_fields(
 #[cycle(fields)]
 fn read_field(
     alloc: Global,
-    tokens: &[Token<'_>],
+    tokens: &Tokens<'_>,
     end: usize,
     name: Seen<'_>,
     at: usize,
@@ -86,7 +87,7 @@ fn read_field(
 #[cycle(fields)]
 fn read_held(
     alloc: Global,
-    tokens: &[Token<'_>],
+    tokens: &Tokens<'_>,
     end: usize,
     at: usize,
     depth: usize,
@@ -121,7 +122,7 @@ fn read_held(
 #[cycle(fields)]
 fn read_valued(
     alloc: Global,
-    tokens: &[Token<'_>],
+    tokens: &Tokens<'_>,
     end: usize,
     at: usize,
     depth: usize,
@@ -155,7 +156,7 @@ fn read_valued(
 #[cycle(fields)]
 fn read_list(
     alloc: Global,
-    tokens: &[Token<'_>],
+    tokens: &Tokens<'_>,
     end: usize,
     from: usize,
     depth: usize,
@@ -187,7 +188,7 @@ fn read_list(
 #[cycle(fields)]
 fn read_element(
     alloc: Global,
-    tokens: &[Token<'_>],
+    tokens: &Tokens<'_>,
     end: usize,
     at: usize,
     depth: usize,
@@ -221,7 +222,7 @@ fn read_element(
 #[cycle(fields)]
 fn read_message(
     alloc: Global,
-    tokens: &[Token<'_>],
+    tokens: &Tokens<'_>,
     end: usize,
     opening: Seen<'_>,
     at: usize,
@@ -249,7 +250,7 @@ fn read_message(
 
 // The place of a message's closing bracket, which is due here.
 fn read_close(
-    tokens: &[Token<'_>],
+    tokens: &Tokens<'_>,
     end: usize,
     at: usize,
     bracket: Bracket,
@@ -270,7 +271,7 @@ fn read_close(
     }
 }
 
-fn closes_list(tokens: &[Token<'_>], at: usize) -> bool
+fn closes_list(tokens: &Tokens<'_>, at: usize) -> bool
     requires { ArePlain tokens.now }
     ensures yes { OnTrue result (ClosesList tokens.now at) }
     ensures no { OnFalse result (ClosesNoList tokens.now at) }
@@ -283,7 +284,7 @@ fn closes_list(tokens: &[Token<'_>], at: usize) -> bool
 }
 
 // Whether a comma goes on with a list, or its bracket closes it.
-fn goes_on(tokens: &[Token<'_>], end: usize, at: usize) -> Result<bool, TextFault>
+fn goes_on(tokens: &Tokens<'_>, end: usize, at: usize) -> Result<bool, TextFault>
     requires { ArePlain tokens.now }
     ensures ok { IfOk result (GoesOn tokens.now end at) }
     ensures within { IfOk result (λ more. at < length tokens.now) }
@@ -302,7 +303,7 @@ fn goes_on(tokens: &[Token<'_>], end: usize, at: usize) -> Result<bool, TextFaul
 // A word, a number or a text.
 fn read_scalar(
     alloc: Global,
-    tokens: &[Token<'_>],
+    tokens: &Tokens<'_>,
     end: usize,
     seen: Seen<'_>,
     at: usize,
@@ -334,7 +335,7 @@ fn read_scalar(
 // Quoted tokens, whose values join.
 fn read_text(
     alloc: Global,
-    tokens: &[Token<'_>],
+    tokens: &Tokens<'_>,
     end: usize,
     first: Seen<'_>,
     at: usize,
@@ -361,7 +362,7 @@ fn read_text(
 }
 
 // What a quoted token stands for, where it has no escape and no further one stands behind it.
-fn lone_text<'a>(tokens: &[Token<'_>], first: &'a [u8], at: usize) -> Option<&'a [u8]>
+fn lone_text<'a>(tokens: &Tokens<'_>, first: &'a [u8], at: usize) -> Option<&'a [u8]>
     requires { ArePlain tokens.now }
     ensures value { IfSome result (λ value. value.now ≡ spelled first.now) }
     ensures ends { IfSome result (λ value. NoQuote (ahead tokens.now at)) }
@@ -375,7 +376,7 @@ fn lone_text<'a>(tokens: &[Token<'_>], first: &'a [u8], at: usize) -> Option<&'a
 // A quoted token with none behind it, which stands for this text.
 fn read_lone(
     alloc: Global,
-    tokens: &[Token<'_>],
+    tokens: &Tokens<'_>,
     end: usize,
     token: Seen<'_>,
     at: usize,
@@ -401,7 +402,7 @@ fn read_lone(
 // Quoted tokens, of any number and with any escapes.
 fn read_joined(
     alloc: Global,
-    tokens: &[Token<'_>],
+    tokens: &Tokens<'_>,
     end: usize,
     first: Seen<'_>,
     at: usize,
@@ -425,7 +426,7 @@ fn read_joined(
 // What a quoted token and those behind it stand for.
 fn join(
     alloc: Global,
-    tokens: &[Token<'_>],
+    tokens: &Tokens<'_>,
     end: usize,
     first: &[u8],
     from: usize,
@@ -446,11 +447,14 @@ fn join(
 }
 
 // The text of a quoted token that stands here.
-fn quoted_text<'a>(tokens: &[Token<'a>], at: usize) -> Option<&'a [u8]>
+fn quoted_text<'a>(tokens: &Tokens<'a>, at: usize) -> Option<&'a [u8]>
     requires { ArePlain tokens.now }
     ensures ahead { MatchOption result (NoQuote (ahead tokens.now at)) (λ text. IsQuoteAt tokens.now at text.now) }
     ensures within { IfSome result (λ text. at < length tokens.now) }
 {
+    if is_of_another_kind(tokens, at, TokenKind::Quoted) {
+        return None;
+    }
     let seen = peek(tokens, at)?;
     if seen.class == Class::Quoted {
         Some(seen.text)

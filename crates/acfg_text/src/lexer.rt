@@ -6,9 +6,11 @@ ghost use Rattle.acfg_text.specs.Lexes.{Lexes, AreSlices, LexFault};
 ghost use Rattle.acfg_text.specs.TextFaults.{IfAt, Rising};
 ghost use Rattle.acfg_text.specs.Scanning.{lex, token_len, quoted_len, scan};
 ghost use Rattle.acfg_text.specs.Machine.{fault};
+ghost use Rattle.acfg_text.specs.Marked.{marked};
 
 use crate::bytes::{Lead, comment_len, lead_of, number_len, word_len};
 use crate::fault::{TextFault, TextWhat};
+use crate::marks::{Marks, Tokens};
 use crate::quoted::{Scan, scan_quoted};
 use crate::token::{Token, TokenKind};
 use std::alloc::Global;
@@ -24,15 +26,29 @@ pub fn tokens<'a>(alloc: Global, source: &'a [u8]) -> Result<Vec<Token<'a>>, Tex
     ensures rising { IfOk result (λ found. Rising 0 (map terminal_of (map lexeme_of found.items)) (length source.now)) }
     ensures err { IfErr result (λ failure. IfAt failure (LexFault source.now)) }
 {
-    let found = read_tokens(alloc, source)?;
+    let found = lexed(alloc, source)?;
+    let list = found.list(alloc)?;
+    Ok(list)
+}
+
+/// The tokens of a text, as above, of which their marks alone are kept.
+pub fn lexed<'a>(alloc: Global, source: &'a [u8]) -> Result<Tokens<'a>, TextFault>
+    ensures ok { IfOk result (λ found. Lexes source.now found) }
+    ensures few { IfOk result (λ found. length found < 2 ^ 64) }
+    ensures err { IfErr result (λ failure. IfAt failure (LexFault source.now)) }
+{
+    let marks = read_marks(alloc, source)?;
+    let found = Tokens::new(source, marks);
+    let _count = found.len();
     Ok(found)
 }
 
-fn read_tokens<'a>(alloc: Global, source: &'a [u8]) -> Result<Vec<Token<'a>>, TextFault>
-    ensures ok { IfOk result (λ found. lex 0 0 source.now ≡ Ok (map lexeme_of found.items)) }
+// Where the tokens of a text begin and end.
+fn read_marks(alloc: Global, source: &[u8]) -> Result<Marks, TextFault>
+    ensures ok { IfOk result (λ found. lex 0 0 source.now ≡ Ok (map (marked source.now) found)) }
     ensures err { IfErr result (λ failure. IfAt failure (λ p w. lex 0 0 source.now ≡ Err (fault p w))) }
 {
-    let mut found = Vec::new(alloc);
+    let mut found = Marks::new(alloc);
     let mut at = 0;
     while at < source.len() {
         match lead_of(source[at]) {
@@ -40,11 +56,7 @@ fn read_tokens<'a>(alloc: Global, source: &'a [u8]) -> Result<Vec<Token<'a>>, Te
             Lead::Comment => at += 1 + comment_len(&source[at + 1..]),
             Lead::Token(kind) => {
                 let end = token_end(source, kind, at)?;
-                found.push(Token {
-                    kind,
-                    place: at,
-                    text: &source[at..end],
-                })?;
+                found.push(at, end)?;
                 at = end;
             }
             Lead::Nothing => return Err(TextFault::At(at, TextWhat::BadByte)),

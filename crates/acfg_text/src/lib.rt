@@ -6,6 +6,7 @@ mod classes;
 mod fault;
 mod grammar;
 mod lexer;
+mod marks;
 mod memory;
 mod printer;
 mod quoted;

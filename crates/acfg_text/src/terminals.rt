@@ -1,13 +1,16 @@
 //! Tokens as the grammar's reader looks at them.
 
 ghost use Rattle.std.specs.Prelude.{◌≡◌, [], ◌∷◌, ◌+◌, ◌<◌, ◌≤◌, false, length, slice_index, IfSome, IfOk, MatchOption};
+ghost use Rattle.std.specs.Prelude.{◌≢◌, List, drop};
+ghost use Rattle.std.specs.Bool.{OnTrue};
 ghost use Rattle.std.specs.Str.{IsAscii};
-ghost use Rattle.acfg_text.specs.Terminals.{symbol, class_of};
+ghost use Rattle.acfg_text.specs.Terminals.{Lexeme, symbol, class_of};
 ghost use Rattle.acfg_text.specs.TextFaults.{is_quoted};
 ghost use Rattle.acfg_text.specs.Reading.{ahead, ArePlain, seen_of, NoField, IsNext, SkipsEnd};
 
 use crate::classes::{Bracket, Class};
-use crate::token::{Token, TokenKind};
+use crate::marks::Tokens;
+use crate::token::TokenKind;
 use acfg_base::Text;
 use std::alloc::{AllocError, Global};
 use std::str;
@@ -63,7 +66,7 @@ fn class_of(kind: TokenKind, text: &[u8]) -> Class
 }
 
 /// The token at a place of the list.
-pub fn peek<'a>(tokens: &[Token<'a>], at: usize) -> Option<Seen<'a>>
+pub fn peek<'a>(tokens: &Tokens<'a>, at: usize) -> Option<Seen<'a>>
     requires { ArePlain tokens.now }
     ensures ahead { MatchOption result (ahead tokens.now at ≡ []) (IsNext tokens.now at) }
     ensures within { IfSome result (λ t. at < length tokens.now) }
@@ -72,7 +75,7 @@ pub fn peek<'a>(tokens: &[Token<'a>], at: usize) -> Option<Seen<'a>>
     if at >= tokens.len() {
         return None;
     }
-    let token = tokens[at];
+    let token = tokens.token(at);
     Some(Seen {
         class: class_of(token.kind, token.text),
         place: token.place,
@@ -81,7 +84,7 @@ pub fn peek<'a>(tokens: &[Token<'a>], at: usize) -> Option<Seen<'a>>
 }
 
 /// The name of a field that begins here.
-pub fn field_name<'a>(tokens: &[Token<'a>], at: usize) -> Option<Seen<'a>>
+pub fn field_name<'a>(tokens: &Tokens<'a>, at: usize) -> Option<Seen<'a>>
     requires { ArePlain tokens.now }
     ensures ahead { MatchOption result (NoField (ahead tokens.now at)) (IsNext tokens.now at) }
     ensures word { IfSome result (λ t. t.class ≡ Class.Word) }
@@ -96,13 +99,24 @@ pub fn field_name<'a>(tokens: &[Token<'a>], at: usize) -> Option<Seen<'a>>
     }
 }
 
+/// Whether the token at a place of the list is of another kind than this.
+pub fn is_of_another_kind(tokens: &Tokens<'_>, at: usize, kind: TokenKind) -> bool
+    ensures { OnTrue result ((at < length tokens.now) × ((l : Lexeme) (rest : List Lexeme)
+        → drop at tokens.now ≡ l ∷ rest → l.kind ≢ kind)) }
+{
+    at < tokens.len() && tokens.kind(at) != kind
+}
+
 /// Behind a field's end, which is nothing, a comma or a semicolon.
-pub fn skip_end(tokens: &[Token<'_>], at: usize) -> usize
+pub fn skip_end(tokens: &Tokens<'_>, at: usize) -> usize
     requires plain { ArePlain tokens.now }
     requires within { at ≤ length tokens.now }
     ensures leads { SkipsEnd tokens.now at result }
     ensures within { (at ≤ result) × (result ≤ length tokens.now) }
 {
+    if is_of_another_kind(tokens, at, TokenKind::Symbol) {
+        return at;
+    }
     let Some(seen) = peek(tokens, at) else {
         return at;
     };

@@ -11,9 +11,9 @@ ghost use Rattle.acfg_text.specs.Reading.{terminal_at, ArePlain, ReadsAll, Fails
 
 use crate::fault::{TextFault, TextWhat};
 use crate::grammar::read_fields;
-use crate::lexer::tokens;
+use crate::lexer::lexed;
+use crate::marks::Tokens;
 use crate::terminals::peek;
-use crate::token::Token;
 use crate::tree::{Item, Tree};
 use sqlite_items::Items;
 use std::alloc::Global;
@@ -27,8 +27,8 @@ pub fn read_tree(alloc: Global, source: &[u8]) -> Result<Tree, TextFault>
     ensures ok { IfOk result (Spells source.now) }
     ensures err { IfErr result (λ failure. IfAt failure (FirstFault source.now)) }
 {
-    let found = tokens(alloc, source)?;
-    let items = read_items(alloc, found.as_slice(), source.len())?;
+    let found = lexed(alloc, source)?;
+    let items = read_items(alloc, &found, source.len())?;
     Ok(Tree {
         items,
         end: source.len(),
@@ -36,7 +36,7 @@ pub fn read_tree(alloc: Global, source: &[u8]) -> Result<Tree, TextFault>
 }
 
 // All tokens, read as fields.
-fn read_items(alloc: Global, tokens: &[Token<'_>], end: usize) -> Result<Items<Item>, TextFault>
+fn read_items(alloc: Global, tokens: &Tokens<'_>, end: usize) -> Result<Items<Item>, TextFault>
     requires plain { ArePlain tokens.now }
     ensures ok { IfOk result (ReadsAll tokens.now end) }
     ensures err { IfErr result (λ failure. IfAt failure (FailsAll tokens.now end)) }

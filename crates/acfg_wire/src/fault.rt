@@ -39,6 +39,16 @@ impl<T: Drop> From<AllocFailed<T>> for WireFault {
     }
 }
 
+impl From<AllocError> for WireFault {
+    ghost use Rattle.acfg_wire.specs.declared.fault.WireFault.TheVariants.{OutOfMemory};
+
+    ghost from_gives = { λ _ e. e ≡ OutOfMemory };
+
+    fn from(_e: AllocError) -> WireFault {
+        WireFault::OutOfMemory
+    }
+}
+
 /// What is wrong with one field.
 #[derive(Clone, Copy, Debug, PartialEq, Eq)]
 pub(crate) enum Fault {

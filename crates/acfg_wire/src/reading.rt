@@ -14,8 +14,28 @@ use std::alloc::Global;
 /// The place of a varint's tenth byte, which holds the last of 64 bits.
 const TENTH: usize = 9;
 
-/// Reads the varint at the front, and gives the bytes behind it.
+/// For how many fields a list has room from the start, where so many could stand in its bytes.
+const FEW: usize = 16;
+
+/// Reads the varint at the front, and gives the bytes behind it. Most have one byte.
+#[tactic(auto, unfolding(crate::specs::Reading::varint_at))]
 fn varint_of(bytes: &[u8]) -> Result<(u64, &[u8]), Fault>
+    ensures { ReadsAs (λ read. (read.0, read.1.now)) result (varint_at bytes.now) }
+{
+    match bytes {
+        [byte, rest @ ..] => {
+            if *byte < 0x80 {
+                Ok((u64::from(*byte), rest))
+            } else {
+                long_varint_of(bytes)
+            }
+        }
+        [] => Err(Fault::Truncated),
+    }
+}
+
+/// The same for a varint of any length.
+fn long_varint_of(bytes: &[u8]) -> Result<(u64, &[u8]), Fault>
     ensures { ReadsAs (λ read. (read.0, read.1.now)) result (varint_at bytes.now) }
 {
     let mut value = 0;
@@ -93,7 +113,8 @@ fn field_at_front(bytes: &[u8], place: usize) -> Result<(Field<'_>, &[u8]), Faul
 /// Reads all of the bytes as fields, in their order.
 ///
 /// Values are not copied: each slice is that part of `bytes`. Any spelling of a varint of up to
-/// ten bytes is read, and any number from 1 up. The room for the list is taken in doubling steps.
+/// ten bytes is read, and any number from 1 up. The list has room for a few fields from the start,
+/// and takes more in doubling steps.
 ///
 /// # Errors
 ///
@@ -118,7 +139,7 @@ pub fn read_fields(alloc: Global, bytes: &[u8]) -> Result<Vec<Field<'_>>, WireFa
     ensures laid { MatchResult result (λ read. laid bytes.now ≡ Ok (laid_of read.items))
         (λ fault. (fault ≡ WireFault.OutOfMemory) ⊎ (laid bytes.now ≡ Err fault)) }
 {
-    let mut fields = Vec::new(alloc);
+    let mut fields = Vec::with_capacity(alloc, FEW.min(bytes.len() / 2))?;
     let mut rest = bytes;
     while !rest.is_empty() {
         let place = bytes.len() - rest.len();

@@ -8,7 +8,7 @@ use Rattle.acfg_cache.proofs.counting.count_fields.Goals as goal
 
 pub returns-in_err-count_field-clause-err : goal.returns-in_err-count_field-clause-err
 returns-in_err-count_field-clause-err c =
-    let p = err_from_is_err_and c.from_residual.result c.from_residual.ensures.1 in
+    let p = err_from_is_err_and c.from_residual-in_err-count_field.result c.from_residual-in_err-count_field.ensures.1 in
     rw (p.1, p.2) (field_fails (λ part. if_held (field_tests c.args.index part.begins) (held ParsedFlag part)) c.args.fields.now c.loop-field.field-index _ (fields_tests c.args.index (parts_read c.args.fields.now)) c.in_err-count_field.field-0.0 c.loop-field-test.true c.loop-field.invariant.passed c.in_err-count_field.ensures.err)
 
 pub loop-field-preserved : goal.loop-field-preserved

@@ -7,7 +7,7 @@ use Rattle.acfg_cache.proofs.counting.read_leaves.Goals as goal
 
 pub returns-in_err-add_field-clause-err : goal.returns-in_err-add_field-clause-err
 returns-in_err-add_field-clause-err c =
-    let p = err_from_is_err_and c.from_residual.result c.from_residual.ensures.1 in
+    let p = err_from_is_err_and c.from_residual-in_err-add_field.result c.from_residual-in_err-add_field.ensures.1 in
     rw (p.1, p.2) (field_fails (λ part. if_held (leaf_tests c.args.index) (held c.args.message part)) c.args.fields.now c.loop-field.field-index _ (message_tests c.args.index c.args.message (parts_read c.args.fields.now)) c.in_err-add_field.field-0.0 c.loop-field-test.true c.loop-field.invariant.passed c.in_err-add_field.ensures.err)
 
 pub loop-field-preserved : goal.loop-field-preserved

@@ -16,16 +16,16 @@ take_rows-requires-clause-ascend c =
     let lists = c.args.lists.now in
     let rows = c.in_ok-rows.rows.items in
     let sorted = c.deref.result.now in
-    let moves = subst (λ (rs : List Row). IsPermutation rows rs) (sym c.deref.ensures.value) c.sort_rows.ensures.permutation in
+    let moves = subst (λ (rs : List Row). IsPermutation rows rs) (sym c.deref.ensures.value) c.in_ok-sort_rows.ensures.permutation in
     let are : AreRowsOf lists (rows_read sorted) = rows_moved lists (rows_read rows) (rows_read sorted) c.in_ok-rows.ensures.lawful c.in_ok-rows.ensures.rows (IsPermutation-map row_read rows sorted moves) in
-    ascends row_read sorted (subst (λ (rs : List Row). IsSortedByKey (λ row. row_key (row_read row)) key_order rs) (sym c.deref.ensures.value) c.sort_rows.ensures.sorted) are.distinct
+    ascends row_read sorted (subst (λ (rs : List Row). IsSortedByKey (λ row. row_key (row_read row)) key_order rs) (sym c.deref.ensures.value) c.in_ok-sort_rows.ensures.sorted) are.distinct
 
 pub take_rows-requires-clause-lawful : goal.take_rows-requires-clause-lawful
 take_rows-requires-clause-lawful c =
     let lists = c.args.lists.now in
     let rows = c.in_ok-rows.rows.items in
     let sorted = c.deref.result.now in
-    let moves = subst (λ (rs : List Row). IsPermutation rows rs) (sym c.deref.ensures.value) c.sort_rows.ensures.permutation in
+    let moves = subst (λ (rs : List Row). IsPermutation rows rs) (sym c.deref.ensures.value) c.in_ok-sort_rows.ensures.permutation in
     let are : AreRowsOf lists (rows_read sorted) = rows_moved lists (rows_read rows) (rows_read sorted) c.in_ok-rows.ensures.lawful c.in_ok-rows.ensures.rows (IsPermutation-map row_read rows sorted moves) in
     rows_lawful lists (rows_read sorted) c.in_ok-rows.ensures.lawful are
 
@@ -38,7 +38,7 @@ returns-in_err-flags-clause-err c =
     let lists = c.args.lists.now in
     let rows = c.in_ok-rows.rows.items in
     let sorted = c.deref.result.now in
-    let moves = subst (λ (rs : List Row). IsPermutation rows rs) (sym c.deref.ensures.value) c.sort_rows.ensures.permutation in
+    let moves = subst (λ (rs : List Row). IsPermutation rows rs) (sym c.deref.ensures.value) c.in_ok-sort_rows.ensures.permutation in
     let are : AreRowsOf lists (rows_read sorted) = rows_moved lists (rows_read rows) (rows_read sorted) c.in_ok-rows.ensures.lawful c.in_ok-rows.ensures.rows (IsPermutation-map row_read rows sorted moves) in
     rw (p.1, p.2) (clash_weaker c.in_err-flags.field-0.0 (FirstClashIn (InRows (rows_read sorted)) c.args.dedup) (IsFirstClash lists c.args.dedup)
     (λ i name clash. clash_of_lists lists (rows_read sorted) c.args.dedup i name are clash)
@@ -49,6 +49,6 @@ returns-clause-ok c =
     let lists = c.args.lists.now in
     let rows = c.in_ok-rows.rows.items in
     let sorted = c.deref.result.now in
-    let moves = subst (λ (rs : List Row). IsPermutation rows rs) (sym c.deref.ensures.value) c.sort_rows.ensures.permutation in
+    let moves = subst (λ (rs : List Row). IsPermutation rows rs) (sym c.deref.ensures.value) c.in_ok-sort_rows.ensures.permutation in
     let are : AreRowsOf lists (rows_read sorted) = rows_moved lists (rows_read rows) (rows_read sorted) c.in_ok-rows.ensures.lawful c.in_ok-rows.ensures.rows (IsPermutation-map row_read rows sorted moves) in
     subst (λ (flags : List Flag). IsMerged lists c.args.dedup flags) (sym c.from_sorted.ensures) (merged_of_lists lists (rows_read sorted) c.args.dedup c.in_ok-flags.flags.items are c.in_ok-flags.ensures.ok)

@@ -5,4 +5,4 @@ use Rattle.acfg_cache.proofs.RowOrder.{key_total}
 use Rattle.acfg_cache.proofs.merging.sort_rows.Goals as goal
 
 pub returns-clause-sorted : goal.returns-clause-sorted
-returns-clause-sorted c = c.sort_unstable_by.ensures.sorted (λ a b. is_lt (key_order (row_key (row_read a)) (row_key (row_read b)))) (ranks_by key_total (λ row. row_key (row_read row))) (answers_always _ _ _ (λ f a r g called. search rules))
+returns-clause-sorted c = c.in_ok-sort_by.ensures.sorted (λ a b. is_lt (key_order (row_key (row_read a)) (row_key (row_read b)))) (ranks_by key_total (λ row. row_key (row_read row))) (answers_always _ _ _ (λ f a r g called. search rules))

@@ -1,4 +1,4 @@
-use Rattle.std.proofs.Common.{◌≡◌, ℕ, ◌+◌, ◌++◌, [], List, length, map, IsPermutation, sym, ap, subst, ◌∙◌, arith}
+use Rattle.std.proofs.Common.{◌≡◌, ◌++◌, [], List, map, IsPermutation, sym, ap, subst, ◌∙◌, arith}
 use Rattle.std.specs.Prelude.{All}
 use Rattle.std.specs.List.{AllByRecursion, flat_map}
 use Rattle.std.proofs.lemmas.Result.{err_from_is_err_and}
@@ -17,14 +17,14 @@ none_unlawful flags none = subst (All IsLawful) (sym none) (λ k d within. absur
 
 pub returns-in_err-declare_all-clause-err : goal.returns-in_err-declare_all-clause-err
 returns-in_err-declare_all-clause-err c =
-    let p = err_from_is_err_and c.from_residual.result c.from_residual.ensures.1 in
+    let p = err_from_is_err_and c.from_residual-in_err-declare_all.result c.from_residual-in_err-declare_all.ensures.1 in
     let asked = c.args.package.now in
     let container = c.args.container.now in
     let files = c.args.declarations.now in
     let values = c.args.values.now in
     rw (p.1, p.2) (in_weaker c.in_err-declare_all.field-0.0 (FirstFailsIn 0 (declarations_tests asked container [] files)) (FailsToCompile asked container files values)
     (λ file place what fails. in_front 0 (declarations_tests asked container [] files) (map (file_tests asked (declared files)) values) file place what fails)
-    (subst (λ flags. IfIn c.in_err-declare_all.field-0.0 (FirstFailsIn 0 (declarations_tests asked container (names flags) files))) c.new-flags.ensures.items c.in_err-declare_all.ensures.err))
+    (subst (λ flags. IfIn c.in_err-declare_all.field-0.0 (FirstFailsIn 0 (declarations_tests asked container (names flags) files))) c.in_ok-list.ensures c.in_err-declare_all.ensures.err))
 
 pub returns-in_err-set_all-clause-err : goal.returns-in_err-set_all-clause-err
 returns-in_err-set_all-clause-err c =
@@ -33,11 +33,11 @@ returns-in_err-set_all-clause-err c =
     let container = c.args.container.now in
     let files = c.args.declarations.now in
     let values = c.args.values.now in
-    let made = c.in_ok-declare_all.ensures.flags ∙ ap (λ flags. flags ++ map (flag_of asked container []) (declared files)) c.new-flags.ensures.items in
+    let made = c.in_ok-declare_all.ensures.flags ∙ ap (λ flags. flags ++ map (flag_of asked container []) (declared files)) c.in_ok-list.ensures in
     rw (p.1, p.2) (in_weaker c.in_err-set_all.field-0.0 _ (FailsToCompile asked container files values)
     (λ file place what fails.
     in_behind 0 (declarations_tests asked container [] files) (map (file_tests asked (declared files)) values) file place what
-    (subst (λ flags. AllByRecursion (AllByRecursion Holds) (declarations_tests asked container (names flags) files)) c.new-flags.ensures.items c.in_ok-declare_all.ensures.passed)
+    (subst (λ flags. AllByRecursion (AllByRecursion Holds) (declarations_tests asked container (names flags) files)) c.in_ok-list.ensures c.in_ok-declare_all.ensures.passed)
     (subst (λ n. FirstFailsIn n (map (file_tests asked (declared files)) values) file place what) (omega (arith, length-declarations_tests asked container [] files)) (fails container [] (declared files) made)))
     c.in_err-set_all.ensures.err)
 
@@ -46,11 +46,11 @@ unreachable-requires c =
     let asked = c.args.package.now in
     let container = c.args.container.now in
     let files = c.args.declarations.now in
-    let made = c.in_ok-declare_all.ensures.flags ∙ ap (λ flags. flags ++ map (flag_of asked container []) (declared files)) c.new-flags.ensures.items in
+    let made = c.in_ok-declare_all.ensures.flags ∙ ap (λ flags. flags ++ map (flag_of asked container []) (declared files)) c.in_ok-list.ensures in
     distinct asked container (flat_map sourced c.args.values.now) (declared files) c.set_all.new.flags.items c.declare_all.new.places
     (c.in_ok-set_all.ensures.made container [] (declared files) made)
     (subst (Finds c.declare_all.new.places) (sym c.in_ok-set_all.ensures.names) c.in_ok-declare_all.ensures.finds)
-    (c.in_ok-set_all.ensures.lawful (c.in_ok-declare_all.ensures.lawful (none_unlawful _ c.new-flags.ensures.items)))
+    (c.in_ok-set_all.ensures.lawful (c.in_ok-declare_all.ensures.lawful (none_unlawful _ c.in_ok-list.ensures)))
     (no_flags_back _ _ c.in_ok-arrange.ensures (rw c.in-None.is at c.in_ok-flags.ensures.flags))
 
 pub returns-clause-ok : goal.returns-clause-ok
@@ -59,10 +59,10 @@ returns-clause-ok c =
     let container = c.args.container.now in
     let files = c.args.declarations.now in
     let values = c.args.values.now in
-    let made = c.in_ok-declare_all.ensures.flags ∙ ap (λ flags. flags ++ map (flag_of asked container []) (declared files)) c.new-flags.ensures.items in
+    let made = c.in_ok-declare_all.ensures.flags ∙ ap (λ flags. flags ++ map (flag_of asked container []) (declared files)) c.in_ok-list.ensures in
     record {
       passed = all_hold (declarations_tests asked container [] files) (map (file_tests asked (declared files)) values)
-          (subst (λ flags. AllByRecursion (AllByRecursion Holds) (declarations_tests asked container (names flags) files)) c.new-flags.ensures.items c.in_ok-declare_all.ensures.passed)
+          (subst (λ flags. AllByRecursion (AllByRecursion Holds) (declarations_tests asked container (names flags) files)) c.in_ok-list.ensures c.in_ok-declare_all.ensures.passed)
           (c.in_ok-set_all.ensures.passed container [] (declared files) made);
       are = rw c.in-Some.is at c.in_ok-flags.ensures.lawful;
       same = subst (λ list. IsPermutation list c.in-Some.flags) (c.in_ok-set_all.ensures.made container [] (declared files) made)

@@ -1,4 +1,4 @@
-use Rattle.std.proofs.Common.{◌≡◌, ◌+◌, ◌++◌, ◌∷◌, drop, sym, ap, subst, ◌∙◌, arith}
+use Rattle.std.proofs.Common.{◌+◌, ◌++◌, ◌∷◌, drop, sym, ap, subst, ◌∙◌, arith}
 use Rattle.acfg_decls.specs.Compile.{declarations_tests, flag_tests, header_tests}
 use Rattle.acfg_decls.specs.Places.{names}
 use Rattle.acfg_decls.proofs.Numbered.{PassedIn, declared_next, file_next, file_passed, names_behind, same_item}

@@ -1,6 +1,5 @@
-use Rattle.std.proofs.Common.{◌≡◌, ℕ, ◌+◌, [], ◌∷◌, ◌++◌, drop, sym, subst, ◌∙◌, ap}
+use Rattle.std.proofs.Common.{◌+◌, [], ◌++◌, drop, sym, subst, ◌∙◌, ap}
 use Rattle.std.proofs.lemmas.Result.{err_from_is_err_and}
-use Rattle.acfg_decls.specs.declared.faults.DeclWhat.{DeclWhat}
 use Rattle.acfg_decls.specs.Compile.{FirstFails, flag_of, flag_tests, header_tests, tests_behind}
 use Rattle.acfg_decls.specs.Places.{names}
 use Rattle.acfg_decls.proofs.Tested.{Passed, at_weaker, fails_front, fails_behind, front_passed, flag_next, names_next, made_next}

@@ -1,4 +1,4 @@
-use Rattle.std.proofs.Common.{◌≡◌, ◌<◌, ℕ, [], ◌∷◌, ◌++◌, length, map, Some, refl, sym, ap, subst, ◌∙◌, inl, inr, arith}
+use Rattle.std.proofs.Common.{◌≡◌, [], ◌∷◌, ◌++◌, length, Some, refl, sym, ap, subst, ◌∙◌, inl, inr, arith}
 use Rattle.std.proofs.lemmas.List.{map-append, length-map}
 use Rattle.std.proofs.lemmas.List.Elements.{All-push}
 use Rattle.acfg_decls.specs.declared.faults.DeclWhat.TheVariants.{Declared, TooMany}
@@ -7,8 +7,8 @@ use Rattle.acfg_decls.specs.Flags.{IsLawful}
 use Rattle.acfg_decls.specs.Places.{Finds, names}
 use Rattle.acfg_decls.proofs.Tested.{fails_behind, holds_append}
 use Rattle.std.specs.Prelude.{All, Contains}
-use Rattle.std.specs.BTreeMap.{Updates}
-use Rattle.acfg_decls.proofs.Named.{text_cmp, had, lacked, unknown, finds_next}
+use Rattle.std.specs.HashMap.{Updates}
+use Rattle.acfg_decls.proofs.Named.{text_eq, had, lacked, unknown, finds_next}
 use Rattle.acfg_decls.proofs.declaring.declare_flag.Goals as goal
 
 pub returns-then-is_some-clause-err : goal.returns-then-is_some-clause-err
@@ -30,7 +30,7 @@ returns-clause-finds c =
     let before = names c.args.flags.now.items in
     let missed = lacked c.args.places.now c.as_str.result.now c.in_ok-insert.field-0 c.in_ok-insert.ensures.old (sym c.is_some.ensures ∙ c.if-is_some.false) in
     let count : c.len.result ≡ length before = omega (arith, c.len.ensures, length-map c.args.flags.now.items (λ flag. flag.name)) in
-    let next = finds_next c.args.places.now c.insert.new.self before c.as_str.result c.requires missed (subst (λ n. Updates text_cmp c.args.places.now c.insert.new.self c.as_str.result (Some n)) count c.in_ok-insert.ensures.updates) in
+    let next = finds_next c.args.places.now c.insert.new.self before c.as_str.result c.requires missed (subst (λ n. Updates text_eq c.args.places.now c.insert.new.self c.as_str.result (Some n)) count c.in_ok-insert.ensures.updates) in
     let more : names c.push.new.self.items ≡ before ++ c.as_str.result.now ∷ [] =
     ap names c.in_ok-push.ensures.items ∙ map-append (λ flag. flag.name) c.args.flags.now.items _ ∙ ap (λ n. before ++ n ∷ []) (ap (λ flag. flag.name) c.in_ok-make_flag.ensures.flag ∙ sym c.as_str.ensures) in
     subst (Finds c.insert.new.self) (sym more) next

@@ -1,4 +1,4 @@
-use Rattle.std.proofs.Common.{◌≡◌, ◌++◌, codes, drop}
+use Rattle.std.proofs.Common.{◌≡◌, ◌++◌, drop}
 use Rattle.acfg_decls.specs.Reading.{all_in, text_of}
 use Rattle.acfg_decls.proofs.reading.texts_in.Given as goal
 

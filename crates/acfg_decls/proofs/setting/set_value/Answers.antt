@@ -1,7 +1,7 @@
-use Rattle.std.proofs.Common.{rules, ◌≡◌, ◌<◌, ◌&&◌, ℕ, length, map, get_or, set, true, false, not, Some, None, refl, sym, ap, subst, ◌∙◌, inl, inr, arith}
+use Rattle.std.proofs.Common.{rules, ◌≡◌, ◌&&◌, set, Some, refl, sym, ap, ◌∙◌, inl, inr, arith}
 use Rattle.std.proofs.lemmas.List.{get_or_default}
 use Rattle.std.proofs.Math.Seq.{map-set_same}
-use Rattle.acfg_decls.specs.Places.{at, names, with_point}
+use Rattle.acfg_decls.specs.Places.{at, with_point}
 use Rattle.acfg_decls.proofs.Blank.{blank}
 use Rattle.acfg_decls.proofs.Applied.{alike, both_true, differ, of_another, of_none, frees_none, within, of_one, frees_one, frees_other}
 use Rattle.acfg_decls.proofs.setting.set_value.Goals as goal

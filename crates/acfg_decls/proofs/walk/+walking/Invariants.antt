@@ -1,4 +1,4 @@
-use Rattle.std.proofs.Common.{◌≡◌, ℕ, ◌+◌, ◌-◌, ◌*◌, ◌<◌, ◌++◌, take, drop}
+use Rattle.std.proofs.Common.{◌≡◌, ◌+◌, ◌-◌, ◌*◌, ◌<◌, ◌++◌, take, drop}
 use Rattle.std.specs.List.{flat_map}
 use Rattle.acfg_decls.specs.Walk.{first, inside, items_faults, walk}
 use Rattle.acfg_decls.proofs.Walks.{lacking}

@@ -14,7 +14,7 @@ use Rattle.acfg_wire.proofs.Answer.{so_far_first, so_far_next, so_far_last, so_f
 use Rattle.acfg_wire.proofs.reading.read_fields.Goals as goal
 
 pub loop-rest-init : goal.loop-rest-init
-loop-rest-init c = rw c.new-fields.ensures.items (record { so_far = so_far_first c.args.bytes.now; laid = laid_first c.args.bytes.now })
+loop-rest-init c = rw c.in_ok-fields.ensures.items (record { so_far = so_far_first c.args.bytes.now; laid = laid_first c.args.bytes.now })
 
 pub loop-rest-smaller : goal.loop-rest-smaller
 loop-rest-smaller c =

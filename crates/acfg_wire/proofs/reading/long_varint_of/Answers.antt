@@ -2,7 +2,7 @@ use Rattle.std.proofs.Common.{◌≡◌, ◌+◌, ◌-◌, ◌*◌, ◌%◌, ◌
 use Rattle.std.proofs.lemmas.List.{take_rest}
 use Rattle.acfg_wire.specs.Reading.{varint_at}
 use Rattle.acfg_wire.proofs.VarintLoop.{one_bit, joined_at, ends_here, goes_on, scale_more, no_low, below_tenth, below_more_groups}
-use Rattle.acfg_wire.proofs.reading.varint_of.Goals as goal
+use Rattle.acfg_wire.proofs.reading.long_varint_of.Goals as goal
 
 pub loop-i-init : goal.loop-i-init
 unfolding varint_at

@@ -1,7 +1,7 @@
 use Rattle.std.proofs.Common.{◌≡◌, ◌-◌, ◌*◌, ◌^◌, ◌<◌, ◌≤◌, drop}
 use Rattle.acfg_wire.specs.Reading.{varint_within, varint_at}
 use Rattle.acfg_wire.proofs.VarintLoop.{with_low}
-use Rattle.acfg_wire.proofs.reading.varint_of.Given as goal
+use Rattle.acfg_wire.proofs.reading.long_varint_of.Given as goal
 
 abbrev pub invariant-loop-i : goal.invariant-loop-i
 invariant-loop-i l =
