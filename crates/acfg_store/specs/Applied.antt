@@ -17,7 +17,7 @@
 --
 -- The clause `memory` is of a call of one commit: it takes its memory before the first write. Where several commits
 -- follow each other, it says instead that the device is settled and that the files stand for a state between.
-use Rattle.std.specs.Prelude.{◌≡◌, ◌⊎◌, ⊤, ⊥, ℕ, List, Option, None, option_map, option_and_then}
+use Rattle.std.specs.Prelude.{◌≡◌, ◌⊎◌, ⊤, ℕ, List, Option, None, option_map, option_and_then}
 use Rattle.std.specs.FinMap.{get}
 use Rattle.acfg_device.specs.Panel.{Files}
 use Rattle.acfg_model.specs.declared.requests.Reply.{Reply}
