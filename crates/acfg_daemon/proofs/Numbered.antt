@@ -43,8 +43,8 @@ step_numbered state (Update name dir) (Some Bad) = (refusal.BadImage, refl)
 step_numbered state (Update name dir) (Some Disagree) = (refusal.FilesDisagree, refl)
 step_numbered state (Update name dir) (Some (Release digest release)) = release_numbered state name digest release (get state name)
 step_numbered state (Server name «package» flag value) loaded = replaced_numbered state name _
-step_numbered state (Local name «package» flag value) loaded = replaced_numbered state name _
-step_numbered state (Unset name «package» flag) loaded = replaced_numbered state name _
+step_numbered state (Local name «package» flag value now) loaded = replaced_numbered state name _
+step_numbered state (Unset name «package» flag now) loaded = replaced_numbered state name _
 step_numbered state Boot loaded = tt
 step_numbered state (Get name «package» flag) loaded = value_numbered _
 

@@ -43,16 +43,48 @@ value_unique false false same = refl
 
 words_unique : (one other : Request) → words_of one ≡ words_of other → one ≡ other
 words_unique (Update name dir) (Update n d) same = cc
+words_unique (Update name dir) (Local n p f v true) same = cc
+words_unique (Update name dir) (Local n p f v false) same = cc
+words_unique (Update name dir) (Unset n p f true) same = cc
+words_unique (Update name dir) (Unset n p f false) same = cc
 words_unique (Update name dir) other same = cc
 words_unique (Server name «package» flag value) (Server n p f v) same = let value_same = value_unique value v (cc) in cc
+words_unique (Server name «package» flag value) (Local n p f v true) same = cc
+words_unique (Server name «package» flag value) (Local n p f v false) same = cc
+words_unique (Server name «package» flag value) (Unset n p f true) same = cc
+words_unique (Server name «package» flag value) (Unset n p f false) same = cc
 words_unique (Server name «package» flag value) other same = cc
-words_unique (Local name «package» flag value) (Local n p f v) same = let value_same = value_unique value v (cc) in cc
-words_unique (Local name «package» flag value) other same = cc
-words_unique (Unset name «package» flag) (Unset n p f) same = cc
-words_unique (Unset name «package» flag) other same = cc
+words_unique (Local name «package» flag value true) (Local n p f v true) same = let value_same = value_unique value v (cc) in cc
+words_unique (Local name «package» flag value true) (Local n p f v false) same = cc
+words_unique (Local name «package» flag value true) (Unset n p f true) same = cc
+words_unique (Local name «package» flag value true) (Unset n p f false) same = cc
+words_unique (Local name «package» flag value true) other same = cc
+words_unique (Local name «package» flag value false) (Local n p f v false) same = let value_same = value_unique value v (cc) in cc
+words_unique (Local name «package» flag value false) (Local n p f v true) same = cc
+words_unique (Local name «package» flag value false) (Unset n p f true) same = cc
+words_unique (Local name «package» flag value false) (Unset n p f false) same = cc
+words_unique (Local name «package» flag value false) other same = cc
+words_unique (Unset name «package» flag true) (Unset n p f true) same = cc
+words_unique (Unset name «package» flag true) (Local n p f v true) same = cc
+words_unique (Unset name «package» flag true) (Local n p f v false) same = cc
+words_unique (Unset name «package» flag true) (Unset n p f false) same = cc
+words_unique (Unset name «package» flag true) other same = cc
+words_unique (Unset name «package» flag false) (Unset n p f false) same = cc
+words_unique (Unset name «package» flag false) (Local n p f v true) same = cc
+words_unique (Unset name «package» flag false) (Local n p f v false) same = cc
+words_unique (Unset name «package» flag false) (Unset n p f true) same = cc
+words_unique (Unset name «package» flag false) other same = cc
 words_unique Boot Boot same = refl
+words_unique Boot (Local n p f v true) same = cc
+words_unique Boot (Local n p f v false) same = cc
+words_unique Boot (Unset n p f true) same = cc
+words_unique Boot (Unset n p f false) same = cc
 words_unique Boot other same = cc
 words_unique (Get name «package» flag) (Get n p f) same = cc
+words_unique (Get name «package» flag) (Local n p f v true) same = cc
+words_unique (Get name «package» flag) (Local n p f v false) same = cc
+words_unique (Get name «package» flag) (Unset n p f true) same = cc
+words_unique (Get name «package» flag) (Unset n p f false) same = cc
 words_unique (Get name «package» flag) other same = cc
 
 -- a text spells one request
@@ -101,8 +133,8 @@ loads_unique files (Update name dir) None other a b = absurd a
 loads_unique files (Update name dir) (Some one) None a b = absurd b
 loads_unique files (Update name dir) (Some one) (Some other) a b = ap Some (file_unique name (source_path dir) (files (source_path dir)) one other a b)
 loads_unique files (Server name «package» flag value) one other a b = a ∙ sym b
-loads_unique files (Local name «package» flag value) one other a b = a ∙ sym b
-loads_unique files (Unset name «package» flag) one other a b = a ∙ sym b
+loads_unique files (Local name «package» flag value now) one other a b = a ∙ sym b
+loads_unique files (Unset name «package» flag now) one other a b = a ∙ sym b
 loads_unique files Boot one other a b = a ∙ sym b
 loads_unique files (Get name «package» flag) one other a b = a ∙ sym b
 

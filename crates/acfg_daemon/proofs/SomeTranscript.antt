@@ -61,8 +61,8 @@ some_file container path (Some bytes) none = some_bytes container path bytes non
 some_load : (files : Files) (request : Request) → Some_ ((loaded : Option Loaded) × Loads files request loaded)
 some_load files (Update name dir) none = some_file name (source_path dir) (files (source_path dir)) (λ found. none (Some found.0, found.1))
 some_load files (Server name «package» flag value) none = none (None, refl)
-some_load files (Local name «package» flag value) none = none (None, refl)
-some_load files (Unset name «package» flag) none = none (None, refl)
+some_load files (Local name «package» flag value now) none = none (None, refl)
+some_load files (Unset name «package» flag now) none = none (None, refl)
 some_load files Boot none = none (None, refl)
 some_load files (Get name «package» flag) none = none (None, refl)
 

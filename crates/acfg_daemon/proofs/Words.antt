@@ -16,15 +16,15 @@ use Rattle.acfg_model.specs.declared.requests.Request.TheVariants.{Update, Serve
 use Rattle.acfg_daemon.specs.declared.requests.Verb.{Verb}
 use Rattle.acfg_daemon.specs.declared.requests.Verb.TheVariants as verb
 use Rattle.acfg_base.specs.Bytes.{space}
-use Rattle.acfg_daemon.specs.Requests.{value_word, words_of, spelling, IsLawful, IsDirectory, AreWords, Spells, Finds}
+use Rattle.acfg_daemon.specs.Requests.{value_word, local_word, unset_word, words_of, spelling, IsLawful, IsDirectory, AreWords, Spells, Finds}
 use Rattle.acfg_daemon.specs.Bodies.{verb_word}
 
 -- the first word is a verb's
 first_is_verb : (first : List ℕ) (rest : List (List ℕ)) (request : Request) → AreWords (first ∷ rest) request → (verb : Verb) × (first ≡ verb_word verb)
 first_is_verb first rest (Update name dir) asked = (verb.Update, cc asked.same)
 first_is_verb first rest (Server name «package» flag value) asked = (verb.Server, cc asked.same)
-first_is_verb first rest (Local name «package» flag value) asked = (verb.Local, cc asked.same)
-first_is_verb first rest (Unset name «package» flag) asked = (verb.Unset, cc asked.same)
+first_is_verb first rest (Local name «package» flag value now) asked = (verb.Local now, cc asked.same)
+first_is_verb first rest (Unset name «package» flag now) asked = (verb.Unset now, cc asked.same)
 first_is_verb first rest Boot asked = (verb.Boot, cc asked.same)
 first_is_verb first rest (Get name «package» flag) asked = (verb.Get, cc asked.same)
 
@@ -70,12 +70,20 @@ value_is_word : (value : Bool) → IsWord (value_word value)
 value_is_word true = own_word (codes "true") refl refl
 value_is_word false = own_word (codes "false") refl refl
 
+local_is_word : (now : Bool) → IsWord (local_word now)
+local_is_word true = own_word (codes "local-now") refl refl
+local_is_word false = own_word (codes "local") refl refl
+
+unset_is_word : (now : Bool) → IsWord (unset_word now)
+unset_is_word true = own_word (codes "unset-now") refl refl
+unset_is_word false = own_word (codes "unset") refl refl
+
 -- the words of a lawful request are words
 pub words_are_words : (request : Request) → IsLawful request → AllByRecursion IsWord (words_of request)
 words_are_words (Update name dir) lawful = (own_word (codes "update") refl refl, (names_word name lawful.0.names, (directory_word dir lawful.1, tt)))
 words_are_words (Server name «package» flag value) lawful = (own_word (codes "server") refl refl, (names_word name lawful.0.names, (names_word «package» lawful.1.names, (names_word flag lawful.2.names, (value_is_word value, tt)))))
-words_are_words (Local name «package» flag value) lawful = (own_word (codes "local") refl refl, (names_word name lawful.0.names, (names_word «package» lawful.1.names, (names_word flag lawful.2.names, (value_is_word value, tt)))))
-words_are_words (Unset name «package» flag) lawful = (own_word (codes "unset") refl refl, (names_word name lawful.0.names, (names_word «package» lawful.1.names, (names_word flag lawful.2.names, tt))))
+words_are_words (Local name «package» flag value now) lawful = (local_is_word now, (names_word name lawful.0.names, (names_word «package» lawful.1.names, (names_word flag lawful.2.names, (value_is_word value, tt)))))
+words_are_words (Unset name «package» flag now) lawful = (unset_is_word now, (names_word name lawful.0.names, (names_word «package» lawful.1.names, (names_word flag lawful.2.names, tt))))
 words_are_words Boot lawful = (own_word (codes "boot") refl refl, tt)
 words_are_words (Get name «package» flag) lawful = (own_word (codes "get") refl refl, (names_word name lawful.0.names, (names_word «package» lawful.1.names, (names_word flag lawful.2.names, tt))))
 
@@ -96,8 +104,8 @@ joined_text (first ∷ second ∷ rest) words = IsUtf8-append first (space ∷ j
 pub split_spelling : (request : Request) → IsLawful request → slice_split (λ byte. eqb byte space) (spelling request) ≡ words_of request
 split_spelling (Update name dir) lawful = split_join _ _ (words_are_words (Update name dir) lawful)
 split_spelling (Server name «package» flag value) lawful = split_join _ _ (words_are_words (Server name «package» flag value) lawful)
-split_spelling (Local name «package» flag value) lawful = split_join _ _ (words_are_words (Local name «package» flag value) lawful)
-split_spelling (Unset name «package» flag) lawful = split_join _ _ (words_are_words (Unset name «package» flag) lawful)
+split_spelling (Local name «package» flag value now) lawful = split_join _ _ (words_are_words (Local name «package» flag value now) lawful)
+split_spelling (Unset name «package» flag now) lawful = split_join _ _ (words_are_words (Unset name «package» flag now) lawful)
 split_spelling Boot lawful = split_join _ _ (words_are_words Boot lawful)
 split_spelling (Get name «package» flag) lawful = split_join _ _ (words_are_words (Get name «package» flag) lawful)
 

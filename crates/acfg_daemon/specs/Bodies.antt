@@ -8,6 +8,7 @@ use Rattle.acfg_daemon.specs.declared.lines.Arrived.{Arrived}
 use Rattle.acfg_daemon.specs.declared.lines.Arrived.TheVariants as arrived
 use Rattle.acfg_daemon.specs.declared.requests.Verb.{Verb}
 use Rattle.acfg_daemon.specs.declared.requests.Verb.TheVariants.{Update, Server, Local, Unset, Boot, Get}
+use Rattle.acfg_daemon.specs.Requests.{local_word, unset_word}
 use Rattle.acfg_daemon.specs.Lines.{Event, Complete, TooLong, BadLine}
 
 -- the fault of a script whose read failed
@@ -19,8 +20,8 @@ fault_of read.OutOfMemory = OutOfMemory
 abbrev pub verb_word : Verb → List ℕ
 verb_word Update = codes "update"
 verb_word Server = codes "server"
-verb_word Local = codes "local"
-verb_word Unset = codes "unset"
+verb_word (Local now) = local_word now
+verb_word (Unset now) = unset_word now
 verb_word Boot = codes "boot"
 verb_word Get = codes "get"
 

@@ -16,8 +16,8 @@ pub record IsDirectory (text : List ℕ) : Type 0 where
 abbrev pub IsLawful : Request → Type 0
 IsLawful (Update name dir) = IsContainer name × IsDirectory dir
 IsLawful (Server name «package» flag value) = IsContainer name × IsPackage «package» × IsName flag
-IsLawful (Local name «package» flag value) = IsContainer name × IsPackage «package» × IsName flag
-IsLawful (Unset name «package» flag) = IsContainer name × IsPackage «package» × IsName flag
+IsLawful (Local name «package» flag value now) = IsContainer name × IsPackage «package» × IsName flag
+IsLawful (Unset name «package» flag now) = IsContainer name × IsPackage «package» × IsName flag
 IsLawful Boot = Unit {0}
 IsLawful (Get name «package» flag) = IsContainer name × IsPackage «package» × IsName flag
 
@@ -26,11 +26,21 @@ abbrev pub value_word : Bool → List ℕ
 value_word true = codes "true"
 value_word false = codes "false"
 
+-- the first word of a request for a local override, which may be for now
+abbrev pub local_word : Bool → List ℕ
+local_word false = codes "local"
+local_word true = codes "local-now"
+
+abbrev pub unset_word : Bool → List ℕ
+unset_word false = codes "unset"
+unset_word true = codes "unset-now"
+
 abbrev pub words_of : Request → List (List ℕ)
 words_of (Update name dir) = codes "update" ∷ name ∷ dir ∷ []
 words_of (Server name «package» flag value) = codes "server" ∷ name ∷ «package» ∷ flag ∷ value_word value ∷ []
-words_of (Local name «package» flag value) = codes "local" ∷ name ∷ «package» ∷ flag ∷ value_word value ∷ []
-words_of (Unset name «package» flag) = codes "unset" ∷ name ∷ «package» ∷ flag ∷ []
+words_of (Local name «package» flag value now) =
+    local_word now ∷ name ∷ «package» ∷ flag ∷ value_word value ∷ []
+words_of (Unset name «package» flag now) = unset_word now ∷ name ∷ «package» ∷ flag ∷ []
 words_of Boot = codes "boot" ∷ []
 words_of (Get name «package» flag) = codes "get" ∷ name ∷ «package» ∷ flag ∷ []
 

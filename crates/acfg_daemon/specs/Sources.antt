@@ -52,7 +52,7 @@ abbrev pub Loads : Files → Request → Option Loaded → Type 0
 Loads files (Update name dir) None = ⊥
 Loads files (Update name dir) (Some loaded) = FileLoads name (source_path dir) (files (source_path dir)) loaded
 Loads files (Server name «package» flag value) loaded = loaded ≡ None
-Loads files (Local name «package» flag value) loaded = loaded ≡ None
-Loads files (Unset name «package» flag) loaded = loaded ≡ None
+Loads files (Local name «package» flag value now) loaded = loaded ≡ None
+Loads files (Unset name «package» flag now) loaded = loaded ≡ None
 Loads files Boot loaded = loaded ≡ None
 Loads files (Get name «package» flag) loaded = loaded ≡ None

@@ -16,13 +16,13 @@ use std::str;
 // The most words of a request; a text may have more.
 const MOST_WORDS: usize = 5;
 
-/// The first word of a request.
+/// The first word of a request; that of a local override tells whether it is for now.
 #[derive(Clone, Copy, Debug)]
 enum Verb {
     Update,
     Server,
-    Local,
-    Unset,
+    Local(bool),
+    Unset(bool),
     Boot,
     Get,
 }
@@ -38,8 +38,8 @@ struct Key {
 /// The request that bytes spell, and none exactly where they spell none.
 ///
 /// A request is its words with one space between each two and none at either end: `update C DIR`,
-/// `server C P F V`, `local C P F V`, `unset C P F`, `boot` or `get C P F`, where `C`, `P` and `F` are lawful
-/// names, `V` is `true` or `false`, and `DIR` is a path.
+/// `server C P F V`, `local C P F V`, `local-now C P F V`, `unset C P F`, `unset-now C P F`, `boot` or `get C P F`,
+/// where `C`, `P` and `F` are lawful names, `V` is `true` or `false`, and `DIR` is a path.
 pub fn parse_request(alloc: Global, bytes: &[u8]) -> Result<Option<Request>, OutOfMemory>
     ensures found { IfOk result (Finds (Spells bytes.now)) }
 {
@@ -72,8 +72,8 @@ fn read_words(alloc: Global, words: &[&str]) -> Result<Option<Request>, OutOfMem
     match read_verb(verb) {
         Some(Verb::Update) => update(alloc, rest),
         Some(Verb::Server) => server(alloc, rest),
-        Some(Verb::Local) => local(alloc, rest),
-        Some(Verb::Unset) => unset(alloc, rest),
+        Some(Verb::Local(now)) => local(alloc, rest, now),
+        Some(Verb::Unset(now)) => unset(alloc, rest, now),
         Some(Verb::Boot) => Ok(boot(rest)),
         Some(Verb::Get) => get(alloc, rest),
         None => Ok(None),
@@ -86,8 +86,10 @@ fn read_verb(word: &str) -> Option<Verb>
     match word {
         "update" => Some(Verb::Update),
         "server" => Some(Verb::Server),
-        "local" => Some(Verb::Local),
-        "unset" => Some(Verb::Unset),
+        "local" => Some(Verb::Local(false)),
+        "local-now" => Some(Verb::Local(true)),
+        "unset" => Some(Verb::Unset(false)),
+        "unset-now" => Some(Verb::Unset(true)),
         "boot" => Some(Verb::Boot),
         "get" => Some(Verb::Get),
         _ => None,
@@ -130,8 +132,8 @@ fn server(alloc: Global, words: &[&str]) -> Result<Option<Request>, OutOfMemory>
     }))
 }
 
-fn local(alloc: Global, words: &[&str]) -> Result<Option<Request>, OutOfMemory>
-    ensures { IfOk result (Finds (AreWords (verb_word Verb.Local ∷ map (λ word. word.now) words.now))) }
+fn local(alloc: Global, words: &[&str], now: bool) -> Result<Option<Request>, OutOfMemory>
+    ensures { IfOk result (Finds (AreWords (verb_word (Verb.Local now) ∷ map (λ word. word.now) words.now))) }
 {
     let [container, package, flag, value] = words else {
         return Ok(None);
@@ -147,11 +149,12 @@ fn local(alloc: Global, words: &[&str]) -> Result<Option<Request>, OutOfMemory>
         package: key.package,
         flag: key.flag,
         value,
+        now,
     }))
 }
 
-fn unset(alloc: Global, words: &[&str]) -> Result<Option<Request>, OutOfMemory>
-    ensures { IfOk result (Finds (AreWords (verb_word Verb.Unset ∷ map (λ word. word.now) words.now))) }
+fn unset(alloc: Global, words: &[&str], now: bool) -> Result<Option<Request>, OutOfMemory>
+    ensures { IfOk result (Finds (AreWords (verb_word (Verb.Unset now) ∷ map (λ word. word.now) words.now))) }
 {
     let [container, package, flag] = words else {
         return Ok(None);
@@ -163,6 +166,7 @@ fn unset(alloc: Global, words: &[&str]) -> Result<Option<Request>, OutOfMemory>
         container: key.container,
         package: key.package,
         flag: key.flag,
+        now,
     }))
 }
 

@@ -6,9 +6,9 @@ use Rattle.acfg_model.specs.declared.changes.Change.{Change}
 use Rattle.acfg_model.specs.declared.changes.Change.TheVariants.{SetServer, SetLocal, UnsetLocal}
 use Rattle.acfg_model.specs.declared.containers.FlagState.{FlagState}
 use Rattle.acfg_model.specs.declared.refusals.Refusal.{Refusal}
-use Rattle.acfg_model.specs.FlagStates.{row_key, release_in, local_in, container_in, changed_key, changed_row, IsLawful}
+use Rattle.acfg_model.specs.FlagStates.{row_key, release_in, local_in, container_in, changed_row, IsLawful}
 use Rattle.acfg_model.specs.State.{BootMap, Container, IsValidContainer}
-use Rattle.acfg_model.specs.Step.{unless, change_refusal, changed, with_change}
+use Rattle.acfg_model.specs.Step.{unless, change_refusal, changed, changed_key, with_change}
 use Rattle.acfg_model.proofs.Rowed.{order_set, container-server, container-local, container-unset}
 use Rattle.acfg_model.proofs.Valid.{IsValidContainer-changed}
 

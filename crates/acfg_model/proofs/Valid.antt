@@ -1,5 +1,5 @@
 -- Each change of a container and of the state keeps it valid.
-use Rattle.std.proofs.Common.{◌≡◌, ℕ, Bool, true, false, cond, ◌||◌, List, Option, Some, None, is_some, IsTrue, option_map, refl, sym, ap, subst, ◌∙◌, true≢false}
+use Rattle.std.proofs.Common.{◌≡◌, ℕ, Bool, true, false, cond, ◌||◌, List, Option, Some, None, is_some, IsTrue, option_map, option_and_then, if◌then◌else◌, refl, sym, ap, subst, ◌∙◌, true≢false}
 use Rattle.std.specs.Option.{option_map_or}
 use Rattle.std.specs.Ordering.{eq_by_cmp}
 use Rattle.std.specs.FinMap.{FinMap, get, insert, remove, contains_key, retain_keys, get-insert, get-remove, get-empty, get-retain_keys}
@@ -12,7 +12,11 @@ use Rattle.acfg_base.proofs.Maps.{get-map_values}
 use Rattle.acfg_model.specs.State.{BootedFlag, BootMap, Container, is_read_write, is_writable, pick, IsDigest, IsValidContainer}
 use Rattle.acfg_model.specs.declared.changes.Change.{Change}
 use Rattle.acfg_model.specs.declared.changes.Change.TheVariants.{SetServer, SetLocal, UnsetLocal}
-use Rattle.acfg_model.specs.Step.{set_refusal, change_refusal, changed, boot_map, booted, with_release, fresh}
+use Rattle.acfg_model.specs.Step.{IsRenewable, set_refusal, change_refusal, changed, entry_refusal, boot_map, booted, booted_flag_of, renewed, renewed_flag, with_flag, with_release, fresh}
+use Rattle.acfg_model.specs.declared.refusals.Refusal.TheVariants.{NotBooted}
+
+some_in : {X : Type 0} {x y : X} → Some x ≡ Some y → x ≡ y
+some_in e = cc
 
 -- what isn't refused may be written
 writable_facts : (facts : Option (Kind × Bool)) → set_refusal facts ≡ None → option_map_or (λ f. is_read_write f.0) facts false ≡ true
@@ -31,6 +35,20 @@ put_at {X} P m key value here all k v e =
       | true ↦ λ t is. subst P (sym (key_exact k key (Equal_of _ t))) here
       | false ↦ λ t is. all k v is
     ] refl (sym (get-insert key_total m key value k) ∙ e)
+
+placed_at : {X : Type 0} (P : Key → X → Type 0) (m : FinMap key_cmp X) (key : Key) (value : X) → P key value → ((k : Key) (v : X) → get m k ≡ Some v → P k v) → (k : Key) (v : X) → get (insert m key value) k ≡ Some v → P k v
+placed_at {X} P m key value here all k v e =
+    elim (eq_by_cmp key_cmp k key) as (λ b. eq_by_cmp key_cmp k key ≡ b → cond b (Some value) (get m k) ≡ Some v → P k v) [
+      | true ↦ λ t is. subst (λ (p : Key × X). P p.0 p.1) (λ i. (sym (key_exact k key (Equal_of _ t)) i, some_in is i)) here
+      | false ↦ λ t is. all k v is
+    ] refl (sym (get-insert key_total m key value k) ∙ e)
+
+-- what isn't refused is read-write
+may_take : (was : BootedFlag) → entry_refusal (Some was) ≡ None → is_read_write was.kind ≡ true
+may_take was goes = elim (is_read_write was.kind) as (λ b. (if b then None else Some NotBooted) ≡ None → b ≡ true) [
+  | true ↦ λ _. refl
+  | false ↦ λ e. cc
+] goes
 
 -- and at one key less
 taken_at : {X : Type 0} (P : Key → Type 0) (m : FinMap key_cmp X) (key : Key) → ((k : Key) (v : X) → get m k ≡ Some v → P k) → (k : Key) (v : X) → get (remove m key) k ≡ Some v → P k
@@ -151,3 +169,43 @@ IsValidContainer-fresh digest release sized keys = record {
   where
     none_is_some : {X : Type 0} {x : X} → None ≡ Some x → ⊥
     none_is_some e = cc
+
+-- a boot copy with one flag's entry anew is as lawful as before
+module _ (c : Container) (valid : IsValidContainer c) (key : Key) where
+  module _ (boot : BootMap) (is : c.boot ≡ Some boot) where
+    entry_made : Option BootedFlag → Option (Kind × Bool) → Option BootedFlag
+    entry_made entry facts = option_and_then (λ (was : BootedFlag). option_map (λ (f : Kind × Bool). record (booted_flag_of c key f) { kind = was.kind }) facts) entry
+
+    -- an entry that keeps its kind, which is read-write
+    takes : (was : BootedFlag) → get boot key ≡ Some was → is_read_write was.kind ≡ true → (new : BootedFlag) → new.kind ≡ was.kind → IsValidContainer (record c { boot = Some (insert boot key new) })
+    takes was there may new same = record {
+      digest = valid.digest;
+      keys = valid.keys;
+      booted = λ other k flag other_is found. placed_at (λ k flag. IsKey k) boot key new (valid.booted boot key was is there) (λ k flag at. valid.booted boot k flag is at) k flag
+          (ap (λ (m : BootMap). get m k) (some_in other_is) ∙ found);
+      server = valid.server;
+      local = valid.local;
+      noted = λ other k flag other_is found. placed_at (λ k flag. IsTrue (flag.server || flag.local) → IsTrue (is_read_write flag.kind)) boot key new
+          (λ noted. ap is_read_write same ∙ may) (λ k flag at. valid.noted boot k flag is at) k flag
+          (ap (λ (m : BootMap). get m k) (some_in other_is) ∙ found);
+    }
+
+    stays : IsValidContainer (record c { boot = Some boot })
+    stays = subst (λ (b : Option BootMap). IsValidContainer (record c { boot = b })) is valid
+
+    by_entry : (entry : Option BootedFlag) → get boot key ≡ entry → entry_refusal entry ≡ None → (facts : Option (Kind × Bool)) → IsValidContainer (record c { boot = Some (with_flag boot key (entry_made entry facts)) })
+    unfolding entry_made
+    by_entry None there goes facts = cc
+    by_entry (Some was) there goes None = stays
+    by_entry (Some was) there goes (Some facts) = takes was there (may_take was goes) (record (booted_flag_of c key facts) { kind = was.kind }) refl
+
+    pub entry_renewed : entry_refusal (get boot key) ≡ None → IsValidContainer (record c { boot = Some (with_flag boot key (renewed_flag c key (get boot key))) })
+    unfolding entry_made
+    entry_renewed goes = by_entry (get boot key) refl goes (get c.release key)
+
+  by_boot : (boot : Option BootMap) → c.boot ≡ boot → IsRenewable boot key → IsValidContainer (record c { boot = option_map (λ (m : BootMap). with_flag m key (renewed_flag c key (get m key))) boot })
+  by_boot None is goes = subst (λ (b : Option BootMap). IsValidContainer (record c { boot = b })) is valid
+  by_boot (Some boot) is goes = entry_renewed boot is goes
+
+  pub IsValidContainer-renewed : IsRenewable c.boot key → IsValidContainer (renewed c key)
+  IsValidContainer-renewed goes = by_boot c.boot refl goes

@@ -1,6 +1,6 @@
 -- The flags of a release with their overrides, as rows in order: how a container is kept, and how it changes.
 use Rattle.std.specs.Prelude.{◌≡◌, ℕ, Bool, List, Option, None, Some, Result, Ok, Err, MatchResult}
-use Rattle.std.specs.Prelude.{if◌then◌else◌, is_some, unwrap_or, option_and_then}
+use Rattle.std.specs.Prelude.{if◌then◌else◌, is_some, unwrap_or, option_and_then, option_map}
 use Rattle.std.specs.FinMap.{get}
 use Rattle.acfg_base.specs.Places.{AreInOrder, StandsAt, row_at, map_of, map_where}
 use Rattle.acfg_base.specs.declared.releases.Entry.{Entry}
@@ -11,10 +11,10 @@ use Rattle.acfg_model.specs.declared.views.Override.{Override}
 use Rattle.acfg_model.specs.declared.containers.Setter.{Setter}
 use Rattle.acfg_model.specs.declared.containers.Setter.TheVariants.{Server, Local}
 use Rattle.acfg_model.specs.declared.containers.FlagState.{FlagState}
-use Rattle.acfg_model.specs.State.{OverrideMap, BootMap, Container, IsValidContainer, is_read_write}
+use Rattle.acfg_model.specs.State.{OverrideMap, BootMap, BootedFlag, Container, IsValidContainer, is_read_write}
 use Rattle.acfg_model.specs.declared.changes.Change.{Change}
 use Rattle.acfg_model.specs.declared.changes.Change.TheVariants.{SetServer, SetLocal, UnsetLocal}
-use Rattle.acfg_model.specs.Step.{change_refusal, set_refusal, unset_refusal}
+use Rattle.acfg_model.specs.Step.{change_refusal, changed_key, set_refusal, unset_refusal, with_flag}
 
 abbrev pub row_key : FlagState → Key
 row_key row = key_of row.entry
@@ -82,12 +82,6 @@ IsSettable rows key r = IsPlaceUnless rows key (set_refusal (get (release_in row
 abbrev pub IsUnsettable : List FlagState → Key → Result ℕ Refusal → Type 0
 IsUnsettable rows key r = IsPlaceUnless rows key (unset_refusal (get (release_in rows) key) (get (local_in rows) key)) r
 
--- the flag that a change is of
-abbrev pub changed_key : Change → Key
-changed_key (SetServer key value) = key
-changed_key (SetLocal key value) = key
-changed_key (UnsetLocal key) = key
-
 abbrev pub IsChangeable : List FlagState → Change → Result ℕ Refusal → Type 0
 IsChangeable rows change r =
     IsPlaceUnless rows (changed_key change) (change_refusal (release_in rows) (local_in rows) change) r
@@ -97,3 +91,23 @@ abbrev pub changed_row : Change → FlagState → FlagState
 changed_row (SetServer key value) row = record row { server = Some value }
 changed_row (SetLocal key value) row = record row { local = Some value }
 changed_row (UnsetLocal key) row = record row { local = None }
+
+-- what a flag's entry in the boot copy takes of its row: the pick, and a note of each override
+abbrev pub renewed_row : FlagState → Booted → Booted
+renewed_row row was = record {
+  entry = record was.entry { value = unwrap_or row.local (unwrap_or row.server row.entry.value) };
+  server = is_some row.server;
+  local = is_some row.local;
+}
+
+abbrev pub picked_flag : FlagState → BootedFlag → BootedFlag
+picked_flag row was = record {
+  kind = was.kind;
+  value = unwrap_or row.local (unwrap_or row.server row.entry.value);
+  server = is_some row.server;
+  local = is_some row.local;
+}
+
+-- a boot copy with the entry of a row's flag anew
+abbrev pub boot_renewed : FlagState → Key → BootMap → BootMap
+boot_renewed row key boot = with_flag boot key (option_map (picked_flag row) (get boot key))

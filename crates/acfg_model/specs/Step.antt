@@ -1,5 +1,5 @@
 -- One step of the plain machine: the reply to a request, and the state after it.
-use Rattle.std.specs.Prelude.{ℕ, Bool, List, Option, Some, None, Result, Ok, Err, option_map, option_and_then}
+use Rattle.std.specs.Prelude.{◌≡◌, ℕ, Bool, false, List, Option, Some, None, Result, Ok, Err, option_map, option_and_then}
 use Rattle.std.specs.Prelude.{if◌then◌else◌, IsNone, bytes_eq, nat_le, ◌<◌, ◌^◌}
 use Rattle.std.specs.FinMap.{get, insert, remove, empty, len, contains_key, retain_keys}
 use Rattle.acfg_base.specs.declared.releases.Kind.{Kind}
@@ -18,7 +18,7 @@ use Rattle.acfg_model.specs.declared.requests.Request.{Request}
 use Rattle.acfg_model.specs.declared.requests.Request.TheVariants.{Update, Server, Local, Unset, Boot, Get}
 use Rattle.acfg_model.specs.Refusals.{number_of}
 use Rattle.acfg_model.specs.State.{BootedFlag, BootMap, Container, OverrideMap, State}
-use Rattle.acfg_model.specs.State.{is_writable, pick, most_containers}
+use Rattle.acfg_model.specs.State.{is_read_write, is_writable, pick, most_containers}
 
 -- a refused request leaves the state as it was
 abbrev pub refused : State → Refusal → State × Reply
@@ -58,15 +58,17 @@ abbrev pub with_change : Container → Change → Result Container Refusal
 with_change container change =
     unless (change_refusal container.release container.local change) (changed container change)
 
+-- the flag that a change is of
+abbrev pub changed_key : Change → Key
+changed_key (SetServer key value) = key
+changed_key (SetLocal key value) = key
+changed_key (UnsetLocal key) = key
+
 -- the state and the reply where one container is changed, or none of that name is there
 abbrev pub replaced : State → List ℕ → Option (Result Container Refusal) → State × Reply
 replaced state name None = refused state refusal.UnknownContainer
 replaced state name (Some (Ok container)) = (insert state name container, Fine)
 replaced state name (Some (Err why)) = refused state why
-
-abbrev pub change_step : State → List ℕ → Change → State × Reply
-change_step state name change =
-    replaced state name (option_map (λ container. with_change container change) (get state name))
 
 -- a flag of the release as it is booted: with its pick, and a note of each override that it has
 abbrev pub booted_flag_of : Container → Key → Kind × Bool → BootedFlag
@@ -82,6 +84,59 @@ boot_map container = map_values (booted_flag_of container) container.release
 
 abbrev pub booted : Container → Container
 booted container = record container { boot = Some (boot_map container) }
+
+-- the boot copy has the flag, and it is read-write there
+abbrev pub entry_refusal : Option BootedFlag → Option Refusal
+entry_refusal None = Some refusal.NotBooted
+entry_refusal (Some flag) = if is_read_write flag.kind then None else Some refusal.NotBooted
+
+-- a change for now needs a boot copy first, then what the change needs, and then the flag in the boot copy
+abbrev pub boot_refusal : Option Refusal → Option BootMap → Key → Option Refusal
+boot_refusal why None key = Some refusal.NoBootCopy
+boot_refusal (Some why) (Some boot) key = Some why
+boot_refusal None (Some boot) key = entry_refusal (get boot key)
+
+-- where the boot copy has a flag, it takes a value there
+abbrev pub IsRenewable : Option BootMap → Key → Type 0
+IsRenewable None key = Unit {0}
+IsRenewable (Some boot) key = entry_refusal (get boot key) ≡ None
+
+abbrev pub now_refusal : Container → Change → Option Refusal
+now_refusal container change =
+    boot_refusal (change_refusal container.release container.local change) container.boot (changed_key change)
+
+-- A booted flag with the pick and the present overrides, and the kind that it has. It is none where the boot copy or
+-- the release lacks the flag, of which a change for now is refused.
+abbrev pub renewed_flag : Container → Key → Option BootedFlag → Option BootedFlag
+renewed_flag container key booted =
+    option_and_then
+    (λ was. option_map
+    (λ facts. record (booted_flag_of container key facts) { kind = was.kind })
+    (get container.release key))
+    booted
+
+abbrev pub with_flag : BootMap → Key → Option BootedFlag → BootMap
+with_flag boot key None = boot
+with_flag boot key (Some flag) = insert boot key flag
+
+-- the container with that flag's entry in the boot copy anew
+abbrev pub renewed : Container → Key → Container
+renewed container key = record container {
+  boot = option_map (λ boot. with_flag boot key (renewed_flag container key (get boot key))) container.boot;
+}
+
+abbrev pub with_change_now : Container → Change → Result Container Refusal
+with_change_now container change =
+    unless (now_refusal container change) (renewed (changed container change) (changed_key change))
+
+-- the container with a change of its overrides, which is for now or for the next boot
+abbrev pub with_override : Bool → Container → Change → Result Container Refusal
+with_override now container change =
+    if now then with_change_now container change else with_change container change
+
+abbrev pub change_step : Bool → State → List ℕ → Change → State × Reply
+change_step now state name change =
+    replaced state name (option_map (λ container. with_override now container change) (get state name))
 
 -- what the boot copy has at a flag
 abbrev pub boot_value_in : Option BootMap → Key → Result (Option Bool) Refusal
@@ -137,9 +192,10 @@ update_step state name (Some (Release digest release)) = release_step state name
 -- the state and the reply after a request; an update comes with what was loaded for it (`IsLoadedFor`)
 abbrev pub step : State → Request → Option Loaded → State × Reply
 step state (Update name dir) loaded = update_step state name loaded
-step state (Server name «package» flag value) loaded = change_step state name (SetServer («package», flag) value)
-step state (Local name «package» flag value) loaded = change_step state name (SetLocal («package», flag) value)
-step state (Unset name «package» flag) loaded = change_step state name (UnsetLocal («package», flag))
+step state (Server name «package» flag value) loaded =
+    change_step false state name (SetServer («package», flag) value)
+step state (Local name «package» flag value now) loaded = change_step now state name (SetLocal («package», flag) value)
+step state (Unset name «package» flag now) loaded = change_step now state name (UnsetLocal («package», flag))
 step state Boot loaded = (map_values (λ name. booted) state, Fine)
 step state (Get name «package» flag) loaded = (state, get_reply state name («package», flag))
 
@@ -154,8 +210,8 @@ abbrev pub IsLoadedFor : Request → Option Loaded → Type 0
 IsLoadedFor (Update name dir) None = ⊥
 IsLoadedFor (Update name dir) (Some loaded) = Fits loaded
 IsLoadedFor (Server name «package» flag value) loaded = IsNone loaded
-IsLoadedFor (Local name «package» flag value) loaded = IsNone loaded
-IsLoadedFor (Unset name «package» flag) loaded = IsNone loaded
+IsLoadedFor (Local name «package» flag value now) loaded = IsNone loaded
+IsLoadedFor (Unset name «package» flag now) loaded = IsNone loaded
 IsLoadedFor Boot loaded = IsNone loaded
 IsLoadedFor (Get name «package» flag) loaded = IsNone loaded
 

@@ -1,6 +1,7 @@
 //! Changes of a container's overrides.
 
 ghost use Rattle.std.specs.Prelude.{◌≡◌};
+ghost use Rattle.acfg_model.specs.Step.{changed_key};
 
 use std::marker::Model;
 
@@ -48,4 +49,15 @@ pub enum Change<'a> {
     SetServer(FlagKey<'a>, bool),
     SetLocal(FlagKey<'a>, bool),
     UnsetLocal(FlagKey<'a>),
+}
+
+impl<'a> Change<'a> {
+    /// The flag that the change is of.
+    pub fn key(&self) -> &FlagKey<'a>
+        ensures { result.now ≡ changed_key self.now }
+    {
+        match self {
+            Change::SetServer(key, _) | Change::SetLocal(key, _) | Change::UnsetLocal(key) => key,
+        }
+    }
 }

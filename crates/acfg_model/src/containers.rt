@@ -7,11 +7,13 @@ ghost use Rattle.acfg_model.specs.FlagStates.{row_key, release_in, server_in, lo
 ghost use Rattle.acfg_model.specs.FlagStates.{IsChangeable, IsLawful, IsOutcome, IsSettable, IsUnsettable};
 ghost use Rattle.acfg_model.specs.FlagStates.{container_in};
 ghost use Rattle.acfg_model.specs.State.{IsDigest, IsValidContainer};
-ghost use Rattle.acfg_model.specs.Step.{boot_map, booted, boot_value_in, fresh, with_change, with_release};
+ghost use Rattle.acfg_model.specs.Step.{IsRenewable, boot_map, booted, boot_value_in, fresh, now_refusal, renewed};
+ghost use Rattle.acfg_model.specs.Step.{with_change, with_change_now, with_override, with_release};
 ghost use Rattle.acfg_model.specs.Views.{boot_of, overrides_of, container_of};
 
-use crate::changes::Change;
+use crate::changes::{Change, FlagKey};
 use crate::refusals::Refusal;
+use crate::renewing::{entry_refusal, renewed};
 use crate::views::{BootCopy, Booted, ContainerState, Override, Overrides, boot_value};
 use acfg_base::{ContainerName, Entry, FlagRow, InOrder, Kind, Release, place};
 use std::alloc::{AllocError, Global};
@@ -158,6 +160,63 @@ impl Container {
                 Ok(())
             }
             Err(refusal) => Err(refusal),
+        }
+    }
+
+    /// Why a change for now is refused, where it is: there is no boot copy, the change is refused, or the boot copy lacks
+    /// the flag or has it as one that no override changes. It takes no memory.
+    pub fn refused_now(&self, change: &Change<'_>) -> Option<Refusal>
+        ensures refusal { result ≡ now_refusal self.now change.now }
+        ensures valid { IsValidContainer self.now }
+    {
+        match &self.boot {
+            None => Some(Refusal::NoBootCopy),
+            Some(copy) => match place_of_change(&self.rows, change) {
+                Ok(_) => entry_refusal(copy, change.key()),
+                Err(refusal) => Some(refusal),
+            },
+        }
+    }
+
+    /// Gives a flag's entry in the boot copy, where that has it as read-write, the flag's pick and a note of each
+    /// override that it has now.
+    pub fn renew(&mut self, key: &FlagKey<'_>)
+        requires { IsRenewable self.old.boot key.now }
+        ensures boot { self.new ≡ renewed self.old key.now }
+        ensures valid { IsValidContainer self.new }
+    {
+        if let Ok(at) = place(&self.rows, key.package(), key.flag()) {
+            if let Some(copy) = self.boot.take() {
+                let row = &self.rows[at];
+                self.boot = Some(renewed(copy, key, row));
+            }
+        }
+    }
+
+    /// Changes the overrides, and the flag's entry in the boot copy with them, unless the change is refused.
+    pub fn change_now(&mut self, change: &Change<'_>) -> Result<(), Refusal>
+        ensures outcome { IsOutcome (with_change_now self.old change.now) result self.old self.new }
+        ensures valid { IsValidContainer self.new }
+    {
+        match self.refused_now(change) {
+            Some(refusal) => Err(refusal),
+            None => {
+                let outcome = self.change(change);
+                self.renew(change.key());
+                outcome
+            }
+        }
+    }
+
+    /// Changes the overrides, for now or for the next boot, unless the change is refused.
+    pub fn change_for(&mut self, change: &Change<'_>, now: bool) -> Result<(), Refusal>
+        ensures outcome { IsOutcome (with_override now self.old change.now) result self.old self.new }
+        ensures valid { IsValidContainer self.new }
+    {
+        if now {
+            self.change_now(change)
+        } else {
+            self.change(change)
         }
     }
 

@@ -6,6 +6,7 @@ mod containers;
 mod machines;
 mod names;
 mod refusals;
+mod renewing;
 mod requests;
 mod views;
 

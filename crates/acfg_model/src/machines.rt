@@ -95,13 +95,13 @@ impl Machine {
         Ok(shown(alloc, &self.containers)?)
     }
 
-    fn change(&mut self, name: &str, change: &Change<'_>) -> Reply
-        ensures { change_step self.old name.now change.now ≡ (self.new, result) }
+    fn change(&mut self, name: &str, change: &Change<'_>, now: bool) -> Reply
+        ensures { change_step now self.old name.now change.now ≡ (self.new, result) }
     {
         match place_of(&self.containers, name) {
             Ok(at) => {
                 let named = &mut self.containers[at];
-                reply(named.container.change(change))
+                reply(named.container.change_for(change, now))
             }
             Err(_) => Reply::Refused(Refusal::UnknownContainer.number()),
         }
@@ -208,27 +208,29 @@ impl Machine {
                     FlagKey::new(package.as_str(), flag.as_str()),
                     *value,
                 );
-                Ok(self.change(container.as_str(), &change))
+                Ok(self.change(container.as_str(), &change, false))
             }
             Request::Local {
                 container,
                 package,
                 flag,
                 value,
+                now,
             } => {
                 let change = Change::SetLocal(
                     FlagKey::new(package.as_str(), flag.as_str()),
                     *value,
                 );
-                Ok(self.change(container.as_str(), &change))
+                Ok(self.change(container.as_str(), &change, *now))
             }
             Request::Unset {
                 container,
                 package,
                 flag,
+                now,
             } => {
                 let change = Change::UnsetLocal(FlagKey::new(package.as_str(), flag.as_str()));
-                Ok(self.change(container.as_str(), &change))
+                Ok(self.change(container.as_str(), &change, *now))
             }
             Request::Boot => self.boot(alloc),
             Request::Get {

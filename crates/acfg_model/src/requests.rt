@@ -17,18 +17,20 @@ pub enum Request {
         flag: Name,
         value: bool,
     },
-    /// Set a flag's local override.
+    /// Set a flag's local override; where it is for now, the flag's entry in the boot copy follows at once.
     Local {
         container: ContainerName,
         package: PackageName,
         flag: Name,
         value: bool,
+        now: bool,
     },
-    /// Remove a flag's local override.
+    /// Remove a flag's local override; where it is for now, the flag's entry in the boot copy follows at once.
     Unset {
         container: ContainerName,
         package: PackageName,
         flag: Name,
+        now: bool,
     },
     /// Make the boot copy of every container.
     Boot,

@@ -26,17 +26,19 @@ fn shown(alloc: Global, request: &Request) -> Result<String, AllocError> {
             package,
             flag,
             value,
+            now,
         } => {
             let (container, package, flag) = (container.as_str(), package.as_str(), flag.as_str());
-            format!(in alloc; "Local, {container}, {package}, {flag}, {value}")
+            format!(in alloc; "Local, {container}, {package}, {flag}, {value}, {now}")
         }
         Request::Unset {
             container,
             package,
             flag,
+            now,
         } => {
             let (container, package, flag) = (container.as_str(), package.as_str(), flag.as_str());
-            format!(in alloc; "Unset, {container}, {package}, {flag}")
+            format!(in alloc; "Unset, {container}, {package}, {flag}, {now}")
         }
         Request::Boot => String::from_str(alloc, "Boot"),
         Request::Get {
@@ -64,9 +66,10 @@ fn spellings() -> [(&'static str, &'static str); 38] {
         ("update c.d /data/\u{e9}/-x", "Update, c.d, /data/\u{e9}/-x"),
         ("server c com.a f true", "Server, c, com.a, f, true"),
         ("server c com.a f false", "Server, c, com.a, f, false"),
-        ("local c com.a.b f_1 true", "Local, c, com.a.b, f_1, true"),
-        ("local c com.a f false", "Local, c, com.a, f, false"),
-        ("unset c com.a f", "Unset, c, com.a, f"),
+        ("local c com.a.b f_1 true", "Local, c, com.a.b, f_1, true, false"),
+        ("local-now c com.a f false", "Local, c, com.a, f, false, true"),
+        ("unset c com.a f", "Unset, c, com.a, f, false"),
+        ("unset-now c com.a f", "Unset, c, com.a, f, true"),
         ("boot", "Boot"),
         ("get c com.a f", "Get, c, com.a, f"),
         ("", "none"),
@@ -93,8 +96,7 @@ fn spellings() -> [(&'static str, &'static str); 38] {
         ("unset c com.a f true", "none"),
         ("get c com.a", "none"),
         ("get c com.a f\n", "none"),
-        ("local-now c com.a f true", "none"),
-        ("unset-now c com.a f", "none"),
+        ("local-later c com.a f true", "none"),
         ("unset-all c", "none"),
         ("info c com.a f", "none"),
         ("list c", "none"),

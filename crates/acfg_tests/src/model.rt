@@ -35,16 +35,18 @@ fn request(rt: &impl Abort, alloc: Global, asked: Asked<'_>) -> Result<Request, 
             flag,
             value,
         },
-        "local" => Request::Local {
+        "local" | "local-now" => Request::Local {
             container,
             package,
             flag,
             value,
+            now: asked.0 == "local-now",
         },
-        "unset" => Request::Unset {
+        "unset" | "unset-now" => Request::Unset {
             container,
             package,
             flag,
+            now: asked.0 == "unset-now",
         },
         "get" => Request::Get {
             container,
@@ -207,6 +209,39 @@ fn overrides_count_from_the_next_boot(rt: HostRuntime) -> Result<(), Fail> {
     assert_eq!(rt; said.as_str(), "updated-2-4");
     let said = shown(alloc, &m)?;
     assert_eq!(rt; said.as_str(), "c: 4 1 0;");
+    Ok(())
+}
+
+const AT_ONCE: [Asked<'static>; 8] = [
+    ("local-now", "c", "f", true),
+    ("boot", "c", "f", false),
+    ("local-now", "c", "k", false),
+    ("unset-now", "c", "k", false),
+    ("local-now", "c", "f", true),
+    ("get", "c", "f", false),
+    ("unset", "c", "f", false),
+    ("get", "c", "f", false),
+];
+
+const AFTER_AN_UPDATE: [Asked<'static>; 6] = [
+    ("get", "c", "a", false),
+    ("local-now", "c", "a", true),
+    ("local-now", "c", "f", false),
+    ("get", "c", "f", false),
+    ("unset-now", "c", "f", false),
+    ("get", "c", "f", false),
+];
+
+#[test]
+fn an_override_for_now_counts_at_once(rt: HostRuntime) -> Result<(), Fail> {
+    let alloc = rt.alloc();
+    let mut m = Machine::new(alloc);
+    released(&rt, &mut m, alloc, "c", 1, &FIRST)?;
+    let said = answers(&rt, &mut m, alloc, &AT_ONCE)?;
+    assert_eq!(rt; said.as_str(), " 5 ok 4 7 ok true ok true");
+    released(&rt, &mut m, alloc, "c", 2, &SECOND)?;
+    let said = answers(&rt, &mut m, alloc, &AFTER_AN_UPDATE)?;
+    assert_eq!(rt; said.as_str(), " none 6 ok false ok true");
     Ok(())
 }
 

@@ -1,8 +1,8 @@
 use Rattle.std.proofs.Common.{◌≡◌, None, Ok, sym, ap, subst, ◌∙◌, option_map, set}
 use Rattle.acfg_base.specs.Places.{StandsAt}
 use Rattle.acfg_base.specs.Release.{key_cmp}
-use Rattle.acfg_model.specs.FlagStates.{row_key, release_in, local_in, changed_key, container_in, IsLawful}
-use Rattle.acfg_model.specs.Step.{change_refusal, with_change}
+use Rattle.acfg_model.specs.FlagStates.{row_key, release_in, local_in, container_in, IsLawful}
+use Rattle.acfg_model.specs.Step.{change_refusal, changed_key, with_change}
 use Rattle.acfg_model.specs.Views.{boot_of}
 use Rattle.acfg_model.proofs.Tabled.{change-makes}
 use Rattle.acfg_model.proofs.containers.Container.change.Goals as goal
