@@ -1,5 +1,5 @@
 -- What a change of one container makes of those that are kept, and of the state.
-use Rattle.std.proofs.Common.{◌≡◌, ℕ, ◌<◌, ◌≤◌, List, map, length, get_or, set, Option, Some, None, Result, Ok, Err, option_map, refl, sym, ap, subst, ◌∙◌, arith}
+use Rattle.std.proofs.Common.{◌≡◌, ℕ, false, ◌<◌, ◌≤◌, List, map, length, get_or, set, Option, Some, None, Result, Ok, Err, option_map, refl, sym, ap, subst, ◌∙◌, arith}
 use Rattle.std.specs.Prelude.{All}
 use Rattle.std.specs.FinMap.{get, insert}
 use Rattle.std.proofs.lemmas.List.{get_or-map, get_or_default, length-map, length-set, map-set, set-get_or}
@@ -77,6 +77,17 @@ pub kept_order : (ks : List Kept) → AreKept ks → AreInOrder name_cmp kept_na
 kept_order ks are =
     sym (AreInOrder-same_keys name_total entry_name kept_name (entries_of ks) ks (map-map entry_name entry_of ks)) ∙ entries_in_order (entries_of ks) are.listed are.valid
 
+-- what the state has where a container stands, and where none does
+pub kept_at : (ks : List Kept) → AreKept ks → (name : List ℕ) (at : ℕ) → StandsAt name_cmp kept_name ks name at → (was : Kept) → was ≡ get_or ks at was → get (state_of (entries_of ks)) name ≡ Some was.container
+kept_at ks are name at stands was was_is =
+    ap (λ (s : State). get s name) (state_kept ks) ∙ get-map_of name_total kept_name (λ (k : Kept). k.container) ks name
+    ∙ ap (option_map (λ (k : Kept). k.container)) (row_at-stands name_total kept_name ks (kept_order ks are) name at was stands ∙ ap Some (sym was_is))
+
+pub kept_absent : (ks : List Kept) (name : List ℕ) (at : ℕ) → WouldStandAt name_cmp kept_name ks name at → get (state_of (entries_of ks)) name ≡ None
+kept_absent ks name at gap =
+    ap (λ (s : State). get s name) (state_kept ks) ∙ get-map_of name_total kept_name (λ (k : Kept). k.container) ks name
+    ∙ ap (option_map (λ (k : Kept). k.container)) (row_at-gap name_total kept_name ks name at gap)
+
 abbrev pair_of : State → Reply → State × Reply
 pair_of state reply = (state, reply)
 
@@ -85,28 +96,25 @@ module _ (ks : List Kept) (are : AreKept ks) (name : List ℕ) (change : Change)
   state = state_of (entries_of ks)
 
   -- no container has the name
-  pub absent : (at : ℕ) → WouldStandAt name_cmp kept_name ks name at → change_step state name change ≡ refused state UnknownContainer
+  pub absent : (at : ℕ) → WouldStandAt name_cmp kept_name ks name at → change_step false state name change ≡ refused state UnknownContainer
   absent at gap =
       ap (λ (c : Option Container). replaced state name (option_map (λ (c : Container). with_change c change) c))
-      (ap (λ (s : State). get s name) (state_kept ks) ∙ get-map_of name_total kept_name (λ (k : Kept). k.container) ks name
-      ∙ ap (option_map (λ (k : Kept). k.container)) (row_at-gap name_total kept_name ks name at gap))
+      (kept_absent ks name at gap)
 
   module _ (at : ℕ) (stands : StandsAt name_cmp kept_name ks name at) (was : Kept) (was_is : was ≡ get_or ks at was) where
     same_name : was.name ≡ name
     same_name = ap kept_name was_is ∙ name_exact _ _ (stands.same was)
 
     state_at : get state name ≡ Some was.container
-    state_at =
-        ap (λ (s : State). get s name) (state_kept ks) ∙ get-map_of name_total kept_name (λ (k : Kept). k.container) ks name
-        ∙ ap (option_map (λ (k : Kept). k.container)) (row_at-stands name_total kept_name ks (kept_order ks are) name at was stands ∙ ap Some (sym was_is))
+    state_at = kept_at ks are name at stands was was_is
 
-    step_at : (r : Result Container Refusal) → with_change was.container change ≡ r → change_step state name change ≡ replaced state name (Some r)
+    step_at : (r : Result Container Refusal) → with_change was.container change ≡ r → change_step false state name change ≡ replaced state name (Some r)
     step_at r made =
         ap (λ (c : Option Container). replaced state name (option_map (λ (c : Container). with_change c change) c)) state_at
         ∙ ap (λ (r : Result Container Refusal). replaced state name (Some r)) made
 
     -- the change is refused
-    pub refused_at : (why : Refusal) → with_change was.container change ≡ Err why → change_step state name change ≡ refused state why
+    pub refused_at : (why : Refusal) → with_change was.container change ≡ Err why → change_step false state name change ≡ refused state why
     refused_at why made = step_at (Err why) made
 
     -- the change is made

@@ -1,6 +1,6 @@
 -- The files that a change of overrides writes: with them the directory holds the containers with the one changed, and
 -- nothing that it used before has changed until the list is renamed.
-use Rattle.std.proofs.Common.{◌≡◌, ◌⊎◌, ℕ, zero, suc, ◌<◌, List, [], ◌∷◌, map, length, get_or, set, Option, Some, None, option_map, option_and_then, inl, inr, refl, sym, ap, subst, ◌∙◌, arith, string_bytes}
+use Rattle.std.proofs.Common.{◌≡◌, ◌⊎◌, ℕ, false, zero, suc, ◌<◌, List, [], ◌∷◌, map, length, get_or, set, Option, Some, None, option_map, option_and_then, inl, inr, refl, sym, ap, subst, ◌∙◌, arith, string_bytes}
 use Rattle.std.specs.Prelude.{All, Contains}
 use Rattle.std.specs.FinMap.{get}
 use Rattle.std.specs.Map.{update}
@@ -210,7 +210,7 @@ module _ (dir : List ℕ) (old new : List Kept) (name : List ℕ) (change : Chan
 
     after_others : (other : List ℕ) → (spare other → ⊥) → (other ≡ string_bytes plan.list → ⊥) → after other ≡ first other
     after_others other not_spare not_list =
-        replaced_others beside (string_bytes plan.list) plan.bytes.items (written plan.slot.items first) other (λ changed. elim changed [ | inl same ↦ not_spare (inr same) | inr same ↦ not_list same ])
+        replaced_others beside (string_bytes plan.list) plan.bytes.items (written plan.slot.items first) other (λ changed. elim changed [ inl same ↦ not_spare (inr same) | inr same ↦ not_list same ])
         ∙ written_others plan.slot.items first other (λ among. not_spare (inl among))
 
     -- a file that is used is as it was
@@ -252,16 +252,16 @@ module _ (dir : List ℕ) (old new : List Kept) (name : List ℕ) (change : Chan
     infos_there =
         slot_there override.FlagInfo ∙ all_three (slot_path override.FlagInfo)
         ∙ update_apart with_infos (string_bytes slot.locals.name) (Some slot.locals.bytes.items) (slot_path override.FlagInfo)
-            (λ same. let e = file_apart override.FlagInfo override.Local (same ∙ slot.locals_named) in cc)
+        (λ same. let e = file_apart override.FlagInfo override.Local (same ∙ slot.locals_named) in cc)
         ∙ subst (λ (n : List ℕ). with_infos n ≡ Some slot.infos.bytes.items) slot.infos_named (update_here with_values (string_bytes slot.infos.name) (Some slot.infos.bytes.items))
 
     values_there : after (slot_path override.FlagVal) ≡ Some slot.values.bytes.items
     values_there =
         slot_there override.FlagVal ∙ all_three (slot_path override.FlagVal)
         ∙ update_apart with_infos (string_bytes slot.locals.name) (Some slot.locals.bytes.items) (slot_path override.FlagVal)
-            (λ same. let e = file_apart override.FlagVal override.Local (same ∙ slot.locals_named) in cc)
+        (λ same. let e = file_apart override.FlagVal override.Local (same ∙ slot.locals_named) in cc)
         ∙ update_apart with_values (string_bytes slot.infos.name) (Some slot.infos.bytes.items) (slot_path override.FlagVal)
-            (λ same. let e = file_apart override.FlagVal override.FlagInfo (same ∙ slot.infos_named) in cc)
+        (λ same. let e = file_apart override.FlagVal override.FlagInfo (same ∙ slot.infos_named) in cc)
         ∙ subst (λ (n : List ℕ). with_values n ≡ Some slot.values.bytes.items) slot.values_named (update_here first (string_bytes slot.values.name) (Some slot.values.bytes.items))
 
     list_there : after (path dir [] Records) ≡ Some (records_bytes (map recorded (entries_of new)))
@@ -417,9 +417,9 @@ module _ (dir : List ℕ) (old new : List Kept) (name : List ℕ) (change : Chan
 
         pub cut_leaves : (spoken : List ℕ) (left : Files) (said : List ℕ)
             → IsEither first spoken (λ other. IsNameAmong files other ⊎ (other ≡ second)) (replaced second first_name bytes (written files first)) left said
-            → LeavesState first spoken dir (IsBetween (state_of (entries_of old)) (change_step (state_of (entries_of old)) name change).0) left said
+            → LeavesState first spoken dir (IsBetween (state_of (entries_of old)) (change_step false (state_of (entries_of old)) name change).0) left said
         cut_leaves spoken left said either =
-            either_between first spoken dir (state_of (entries_of old)) (state_of (entries_of new)) (change_step (state_of (entries_of old)) name change).0 left said
+            either_between first spoken dir (state_of (entries_of old)) (state_of (entries_of new)) (change_step false (state_of (entries_of old)) name change).0 left said
             (ap (λ (both : State × Reply). both.0) changed.step)
             (commit_leaves dir (entries_of old) (entries_of new) spare first after spoken left said committed
             (subst (λ (t : List NewFile × (List ℕ × Files)). IsEither first spoken (λ (other : List ℕ). IsNameAmong t.0 other ⊎ (other ≡ t.1.0)) t.1.1 left said)

@@ -1,7 +1,7 @@
 -- What a request promises of a store, of its directory and of the device, each in one word.
 --
--- Of a call over a store `self`, whose outcome is the state and the reply of a definition, and which gives a store and a
--- reply or a fault, these are the clauses; `first` is `D.files device.old`, `start` is `D.account device.old`.
+-- Of a call over a store `self`, whose outcome is the state and the reply of a definition, and which gives a store and
+-- a reply or a fault, these are the clauses; `first` is `D.files device.old`, `start` is `D.account device.old`.
 --
 --     requires open { IsTrue D.tells → IsOpen (D.files device.old) self }
 --     ensures made { IfOk result (λ made. IsMade self outcome made.0 made.1) }

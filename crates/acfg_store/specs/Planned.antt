@@ -1,6 +1,7 @@
 -- Private: what a change of one container's overrides makes of the containers that are kept, and what it writes. No
 -- public clause cites it.
-use Rattle.std.specs.Prelude.{◌≡◌, ◌<◌, ℕ, List, [], ◌∷◌, length, map, set, get_or, Result, Ok, Err, string_bytes}
+use Rattle.std.specs.Prelude.{◌≡◌, ◌<◌, ℕ, false, List, [], ◌∷◌, length, map, set, get_or, Result, Ok, Err}
+use Rattle.std.specs.Prelude.{string_bytes}
 use Rattle.acfg_commit.specs.declared.several.NewFile.{NewFile}
 use Rattle.acfg_images.specs.declared.purpose.Use.TheVariants as purpose
 use Rattle.acfg_images.specs.Set.{IsSetOf, SetParts, listing}
@@ -25,7 +26,8 @@ use Rattle.acfg_views.specs.Layout.{flag_info_type, flag_val_type}
 
 -- changed overrides are in the other slot
 abbrev pub IsTurned : {A : Type 0} → Result A Refusal → Kept → Kept → Type 0
-IsTurned (Ok done) old new = new ≡ record old { container = new.container; override_slot = other_slot old.override_slot }
+IsTurned (Ok done) old new =
+    new ≡ record old { container = new.container; override_slot = other_slot old.override_slot }
 IsTurned (Err refusal) old new = new ≡ old
 
 -- a change of one that is kept: of its overrides, unless it is refused
@@ -49,12 +51,12 @@ pub record IsChangedAt (name : List ℕ) (change : Change) (old new : List Kept)
   pub same_boot : one.container.boot ≡ was.container.boot
   pub kept : AreKept new
   pub sets : all_sets_of new ≡ all_sets_of old
-  pub step : change_step (state_of (entries_of old)) name change ≡ (state_of (entries_of new), Fine)
+  pub step : change_step false (state_of (entries_of old)) name change ≡ (state_of (entries_of new), Fine)
 
 -- the change is refused, and they are as they were
 pub record IsRefusedFor (name : List ℕ) (change : Change) (old new : List Kept) (why : Refusal) : Type 0 where
   pub same : new ≡ old
-  pub step : change_step (state_of (entries_of old)) name change ≡ refused (state_of (entries_of old)) why
+  pub step : change_step false (state_of (entries_of old)) name change ≡ refused (state_of (entries_of old)) why
 
 -- ---- what is written
 

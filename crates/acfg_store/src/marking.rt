@@ -1,5 +1,5 @@
-//! `local` of an override slot: the local overrides in order of the flags' global indexes. Flags stand in order of their
-//! names, so a table of marks, one byte for each flag at its index, puts the overrides in order.
+//! `local` of an override slot: the local overrides in order of the flags' global indexes. Flags stand in order of
+//! their names, so a table of marks, one byte for each flag at its index, puts the overrides in order.
 
 ghost use Rattle.std.specs.Prelude.{◌≡◌, ◌≤◌, ◌^◌, IfOk, length, map};
 ghost use Rattle.acfg_images.specs.Files as four;

@@ -1,4 +1,4 @@
-use Rattle.std.proofs.Common.{ℕ, List, ◌≡◌, ◌⊎◌, refl, ap, subst, sym, ◌∙◌, string_bytes}
+use Rattle.std.proofs.Common.{ℕ, false, List, ◌≡◌, ◌⊎◌, refl, ap, subst, sym, ◌∙◌, string_bytes}
 use Rattle.acfg_commit.specs.Written.{IsNameAmong, replaced, written}
 use Rattle.acfg_device.specs.Left.{IsEither, LeavesSince}
 use Rattle.acfg_model.specs.State.{State}
@@ -16,7 +16,7 @@ pub returns-in_err-plan-in-Ok-clause-cut : goal.returns-in_err-plan-in-Ok-clause
 returns-in_err-plan-in-Ok-clause-cut g c told settled =
     let account = g.D.Panel.account c.args.device.now in
     let first = g.D.Panel.files c.args.device.now in
-    let new : State = (change_step (state_in c.args.self) c.args.name.now c.args.change.now).0 in
+    let new : State = (change_step false (state_in c.args.self) c.args.name.now c.args.change.now).0 in
     subst (λ (spoken : List ℕ). LeavesSince account account (LeavesBetween first spoken c.args.self new)) (sym (g.met.D.Panel.said_told c.args.device.now))
     (rests account first c.args.self new (g.met.D.Panel.files_told c.args.device.now) settled (c.requires told))
 
@@ -24,7 +24,7 @@ pub returns-in-Err-clause-cut : goal.returns-in-Err-clause-cut
 returns-in-Err-clause-cut g c told settled =
     let account = g.D.Panel.account c.args.device.now in
     let first = g.D.Panel.files c.args.device.now in
-    let new : State = (change_step (state_in c.args.self) c.args.name.now c.args.change.now).0 in
+    let new : State = (change_step false (state_in c.args.self) c.args.name.now c.args.change.now).0 in
     subst (λ (spoken : List ℕ). LeavesSince account account (LeavesBetween first spoken c.args.self new)) (sym (g.met.D.Panel.said_told c.args.device.now))
     (rests account first c.args.self new (g.met.D.Panel.files_told c.args.device.now) settled (c.requires told))
 
@@ -61,11 +61,11 @@ returns-in_err-commit-in-Ok-clause-cut g c told settled =
     let start = g.D.Panel.account c.args.device.now in
     let end = g.D.Panel.account c.commit.new.device in
     let old : StoreView = record { dir = string_bytes c.self.inside.dir; entries = entries_of c.self.inside.containers.items; sets = all_sets_of c.self.inside.containers.items } in
-    subst (λ (s : StoreView). LeavesSince start end (LeavesBetween first spoken s (change_step (state_in s) c.args.name.now c.args.change.now).0)) c.self.view_is
+    subst (λ (s : StoreView). LeavesSince start end (LeavesBetween first spoken s (change_step false (state_in s) c.args.name.now c.args.change.now).0)) c.self.view_is
     (leaves_more start end
     (IsEither first spoken (λ (other : List ℕ). IsNameAmong c.as_slice.result.now other ⊎ (other ≡ c.as_str-in-Ok.result.now))
-        (replaced c.as_str-in-Ok.result.now c.as_str-in-Ok-2.result.now c.as_slice-in-Ok.result.now (written c.as_slice.result.now first)))
-    (LeavesBetween first spoken old (change_step (state_in old) c.args.name.now c.args.change.now).0)
+    (replaced c.as_str-in-Ok.result.now c.as_str-in-Ok-2.result.now c.as_slice-in-Ok.result.now (written c.as_slice.result.now first)))
+    (LeavesBetween first spoken old (change_step false (state_in old) c.args.name.now c.args.change.now).0)
     (cut_leaves (string_bytes c.self.inside.dir) c.self.inside.containers.items c.change_in.new.containers.items c.args.name.now c.args.change.now c.in-Ok.at c.in-Ok.ensures c.self.invariant c.in_ok-plan-in-Ok.plan planned first opened.layout opened.kept c.as_slice.result.now c.as_str-in-Ok.result.now c.as_str-in-Ok-2.result.now c.as_slice-in-Ok.result.now c.as_slice.ensures.value c.as_str-in-Ok.ensures.value c.as_str-in-Ok-2.ensures.value c.as_slice-in-Ok.ensures.value spoken)
     (c.in_err-commit-in-Ok.ensures.cut told settled))
 
@@ -93,11 +93,11 @@ returns-in_ok-commit-in-Ok-clause-cut g c told settled =
     let start = g.D.Panel.account c.args.device.now in
     let end = g.D.Panel.account c.commit.new.device in
     let old : StoreView = record { dir = string_bytes c.self.inside.dir; entries = entries_of c.self.inside.containers.items; sets = all_sets_of c.self.inside.containers.items } in
-    subst (λ (s : StoreView). LeavesSince start end (LeavesBetween first spoken s (change_step (state_in s) c.args.name.now c.args.change.now).0)) c.self.view_is
+    subst (λ (s : StoreView). LeavesSince start end (LeavesBetween first spoken s (change_step false (state_in s) c.args.name.now c.args.change.now).0)) c.self.view_is
     (leaves_more start end
     (IsEither first spoken (λ (other : List ℕ). IsNameAmong c.as_slice.result.now other ⊎ (other ≡ c.as_str-in-Ok.result.now))
-        (replaced c.as_str-in-Ok.result.now c.as_str-in-Ok-2.result.now c.as_slice-in-Ok.result.now (written c.as_slice.result.now first)))
-    (LeavesBetween first spoken old (change_step (state_in old) c.args.name.now c.args.change.now).0)
+    (replaced c.as_str-in-Ok.result.now c.as_str-in-Ok-2.result.now c.as_slice-in-Ok.result.now (written c.as_slice.result.now first)))
+    (LeavesBetween first spoken old (change_step false (state_in old) c.args.name.now c.args.change.now).0)
     (cut_leaves (string_bytes c.self.inside.dir) c.self.inside.containers.items c.change_in.new.containers.items c.args.name.now c.args.change.now c.in-Ok.at c.in-Ok.ensures c.self.invariant c.in_ok-plan-in-Ok.plan planned first opened.layout opened.kept c.as_slice.result.now c.as_str-in-Ok.result.now c.as_str-in-Ok-2.result.now c.as_slice-in-Ok.result.now c.as_slice.ensures.value c.as_str-in-Ok.ensures.value c.as_str-in-Ok-2.ensures.value c.as_slice-in-Ok.ensures.value spoken)
     (c.in_ok-commit-in-Ok.ensures.cut told settled))
 
