@@ -1,5 +1,6 @@
 -- One step of the plain machine: the reply to a request, and the state after it.
-use Rattle.std.specs.Prelude.{◌≡◌, ℕ, Bool, false, List, Option, Some, None, Result, Ok, Err, option_map, option_and_then}
+use Rattle.std.specs.Prelude.{◌≡◌, ℕ, Bool, false, List, Option, Some, None, Result, Ok, Err, option_map}
+use Rattle.std.specs.Prelude.{option_and_then}
 use Rattle.std.specs.Prelude.{if◌then◌else◌, IsNone, bytes_eq, nat_le, ◌<◌, ◌^◌}
 use Rattle.std.specs.FinMap.{get, insert, remove, empty, len, contains_key, retain_keys}
 use Rattle.acfg_base.specs.declared.releases.Kind.{Kind}

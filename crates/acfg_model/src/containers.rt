@@ -3,7 +3,8 @@
 ghost use Rattle.std.specs.Prelude.{◌≡◌, IfOk, OnOk, OnErr, map, option_map};
 ghost use Rattle.acfg_base.specs.Places.{AreInOrder, map_where};
 ghost use Rattle.acfg_base.specs.Release.{key_cmp, entries_of, HasLawfulKeys};
-ghost use Rattle.acfg_model.specs.FlagStates.{row_key, release_in, server_in, local_in, booted_row, carried_row, changed_row, override_in};
+ghost use Rattle.acfg_model.specs.FlagStates.{row_key, release_in, server_in, local_in, booted_row, carried_row};
+ghost use Rattle.acfg_model.specs.FlagStates.{changed_row, override_in};
 ghost use Rattle.acfg_model.specs.FlagStates.{IsChangeable, IsLawful, IsOutcome, IsSettable, IsUnsettable};
 ghost use Rattle.acfg_model.specs.FlagStates.{container_in};
 ghost use Rattle.acfg_model.specs.State.{IsDigest, IsValidContainer};
@@ -163,8 +164,8 @@ impl Container {
         }
     }
 
-    /// Why a change for now is refused, where it is: there is no boot copy, the change is refused, or the boot copy lacks
-    /// the flag or has it as one that no override changes. It takes no memory.
+    /// Why a change for now is refused, where it is: there is no boot copy, the change is refused, or the boot copy
+    /// lacks the flag or has it as one that no override changes. It takes no memory.
     pub fn refused_now(&self, change: &Change<'_>) -> Option<Refusal>
         ensures refusal { result ≡ now_refusal self.now change.now }
         ensures valid { IsValidContainer self.now }

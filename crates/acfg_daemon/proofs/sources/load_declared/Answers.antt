@@ -1,4 +1,4 @@
-use Rattle.std.proofs.Common.{◌≡◌, ◌≤◌, [], ◌∷◌, length, None, refl, sym, ap, subst, inl, inr, arith}
+use Rattle.std.proofs.Common.{[], ◌∷◌, refl, sym, subst, inl, inr, arith}
 use Rattle.acfg_base.specs.Names.{IsPackage}
 use Rattle.acfg_decls.specs.declared.faults.DeclWhat.TheVariants.{BadName}
 use Rattle.acfg_decls.specs.Compile.{Compiles}
