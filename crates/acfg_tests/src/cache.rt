@@ -1,7 +1,7 @@
 //! The worked caches, each fault once, every cut of a cache, and known fields with other types.
 
-use acfg_cache::*;
 use acfg_base::{ContainerName, Name, PackageName, Sequence, Text};
+use acfg_cache::*;
 use acfg_decls::{Flag, Flags, Point, Purpose};
 use acfg_wire::WireFault;
 use std::alloc::Global;

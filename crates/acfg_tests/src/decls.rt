@@ -1,10 +1,10 @@
 //! Declarations and values compiled, in each of their spellings.
 
+use acfg_base::{ContainerName, PackageName};
 use acfg_decls::{
     CompileFault, DeclFault, DeclWhat, Declarations, Flags, compile, compile_own, read_container,
     read_declarations, read_values,
 };
-use acfg_base::{ContainerName, PackageName};
 use acfg_text::TextWhat;
 use std::alloc::Global;
 use std::slice;

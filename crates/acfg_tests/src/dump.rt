@@ -1,6 +1,6 @@
-use acfg_dump::{DumpFault, Filter, Template, dump};
 use acfg_base::{ContainerName, PackageName};
 use acfg_decls::{Flags, compile, read_declarations, read_values};
+use acfg_dump::{DumpFault, Filter, Template, dump};
 use std::alloc::Global;
 use std::process::Abort;
 use std::test::Fail;

@@ -5,8 +5,8 @@ ghost use Rattle.acfg_views.specs.Reading.{byte_in};
 ghost use Rattle.acfg_images.specs.declared.purpose.Use.TheVariants.{Copy};
 ghost use Rattle.acfg_images.specs.Set.{IsInfo, has_read_write};
 
-use acfg_images::*;
 use acfg_base::Kind;
+use acfg_images::*;
 use acfg_views::ViewFault;
 use std::alloc::{AllocError, Global};
 use std::test::Fail;

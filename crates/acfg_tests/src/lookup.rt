@@ -3,9 +3,9 @@
 
 ghost use Rattle.std.specs.Prelude.{◌≡◌};
 
-use acfg_lookup::*;
 use acfg_base::Kind;
 use acfg_images::{Checked, ImageSet, Use, check};
+use acfg_lookup::*;
 use acfg_sip::flag_bucket;
 use acfg_views::Steps;
 use std::alloc::{AllocError, Global};

@@ -2,10 +2,10 @@
 
 use crate::caching::{ONE_FLAG, words};
 use crate::query::ONE_FLAG as ONE_SET;
-use acfg_top::run;
 use crate::storage::ONE_STORED;
 use acfg_device::{OutOfMemory, Panel};
 use acfg_memdev::MemDevice;
+use acfg_top::run;
 use std::alloc::Global;
 use std::test::Fail;
 

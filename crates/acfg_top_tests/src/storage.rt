@@ -2,9 +2,9 @@
 
 use crate::caching::{ENABLED, ONE_FLAG, words};
 use crate::query::{NAMES, NO_FLAGS as NO_SET, ONE_FLAG as ONE_SET};
-use acfg_top::run;
 use acfg_device::{OutOfMemory, Panel};
 use acfg_memdev::MemDevice;
+use acfg_top::run;
 use std::alloc::{AllocError, Global};
 use std::test::Fail;
 

@@ -1,9 +1,9 @@
+use acfg_base::{ContainerName, OutOfMemory};
+use acfg_images::FileType;
 use acfg_store::{
     LocalOverride, OverrideFile, Part, Recorded, Slot, file_name, read_locals, read_pointer,
     read_records, write_locals, write_pointer, write_records,
 };
-use acfg_base::{ContainerName, OutOfMemory};
-use acfg_images::FileType;
 use std::alloc::Global;
 use std::process::Abort;
 use std::test::Fail;
