@@ -1,8 +1,13 @@
 -- Bytes that are put at the indexes of flags are those of the flags that a set lists.
-use Rattle.std.proofs.Common.{◌≡◌, ◌⊎◌, ℕ, ◌+◌, ◌<◌, List, get_or, set, length, inl, inr, sym, ap, ◌∙◌, arith}
+use Rattle.std.proofs.Common.{◌≡◌, ◌⊎◌, ℕ, ◌+◌, ◌<◌, List, ◌++◌, get_or, set, length, take, drop, inl, inr, sym, ap, ◌∙◌, arith, take_all}
 use Rattle.std.proofs.lemmas.Bool.{cases_eq}
-use Rattle.std.proofs.lemmas.List.{get_or-set_other, get_or-set_same}
+use Rattle.std.proofs.lemmas.List.{append-nil, drop_all, get_or-set_other, get_or-set_same}
 use Rattle.acfg_store.specs.Stamped.{ArePut}
+
+-- a list that was lent whole and is given back is the new one
+pub given_back : (n : ℕ) (new old : List ℕ) → length new ≡ n → length new ≡ length old → take n (new ++ drop (length new) old) ≡ new
+given_back n new old all same =
+    ap (λ (rest : List ℕ). take n (new ++ rest)) (drop_all (length new) old (omega (arith, same))) ∙ ap (take n) (append-nil new) ∙ take_all n new (omega (arith, all))
 
 -- ---- one byte more
 

@@ -1,7 +1,7 @@
 -- What a request promises of a store, of its directory and of the device, each in one word.
 --
--- Of a call over a store `self`, whose outcome is the state and the reply of a definition, and which gives a store and a
--- reply or a fault, these are the clauses; `first` is `D.files device.old`, `start` is `D.account device.old`.
+-- Of a call over a store `self`, whose outcome is the state and the reply of a definition, and which gives a store and
+-- a reply or a fault, these are the clauses; `first` is `D.files device.old`, `start` is `D.account device.old`.
 --
 --     requires open { IsTrue D.tells → IsOpen (D.files device.old) self }
 --     ensures made { IfOk result (λ made. IsMade self outcome made.0 made.1) }
@@ -17,7 +17,7 @@
 --
 -- The clause `memory` is of a call of one commit: it takes its memory before the first write. Where several commits
 -- follow each other, it says instead that the device is settled and that the files stand for a state between.
-use Rattle.std.specs.Prelude.{◌≡◌, ◌⊎◌, ⊤, ⊥, ℕ, List, Option, None, option_map, option_and_then}
+use Rattle.std.specs.Prelude.{◌≡◌, ◌⊎◌, ⊤, ℕ, List, Option, None, option_map, option_and_then}
 use Rattle.std.specs.FinMap.{get}
 use Rattle.acfg_device.specs.Panel.{Files}
 use Rattle.acfg_model.specs.declared.requests.Reply.{Reply}

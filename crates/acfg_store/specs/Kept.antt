@@ -8,7 +8,7 @@ use Rattle.acfg_images.specs.declared.purpose.Use.TheVariants as purpose
 use Rattle.acfg_images.specs.Faults.{Opened, parts_in}
 use Rattle.acfg_images.specs.Files as four
 use Rattle.acfg_images.specs.Laws.{release_of}
-use Rattle.acfg_images.specs.Set.{IsSetOf, SetParts, listed_key, listing}
+use Rattle.acfg_images.specs.Set.{IsSetOf, SetParts, listed_key, listing, release_in}
 use Rattle.acfg_model.specs.declared.containers.FlagState.{FlagState}
 use Rattle.acfg_model.specs.State.{IsValidContainer}
 use Rattle.acfg_store.specs.declared.boots.BootFiles.{BootFiles}
@@ -24,6 +24,9 @@ use Rattle.acfg_store.specs.Over.{AreBytesIn, AreOverrides}
 use Rattle.acfg_store.specs.Placed.{AreFlagsOf}
 use Rattle.acfg_store.specs.Sets.{AreSetsOf, Sets}
 use Rattle.acfg_store.specs.Stands.{AreFiles, Entry, Holds, recorded}
+
+abbrev pub kept_name : Kept → List ℕ
+kept_name kept = kept.name
 
 -- how a container that is kept lies in the directory
 abbrev pub entry_of : Kept → Entry
@@ -43,15 +46,18 @@ sets_of kept = record { release = kept.release; boot = option_map (λ boot. boot
 abbrev pub index_listed : SetParts → FlagEntry → Option ℕ
 index_listed parts entry = option_map (λ row. row.index) (row_at key_cmp listed_key (listing parts) (key_of entry))
 
--- the indexes are those that the set lists of a release's flags, in order
-pub record AreIndexesOf (set : four.Files) (release : ReleaseMap) (indexes : List ℕ) : Type 0 where
+-- The set is of the release. The indexes are those that it lists of the release's flags, in order, and it lists so many
+-- flags.
+pub record AreIndexesOf (set : four.Files) (release : ReleaseMap) (indexes : List ℕ) (count : ℕ) : Type 0 where
   pub parts : SetParts
   pub is_set : IsSetOf set purpose.Release parts
   pub are : map (λ index. Some index) indexes ≡ map (index_listed parts) (entries_of release)
+  pub count_is : count ≡ length (listing parts)
+  pub release_is : release_in parts ≡ release
 
--- each flag's global index is kept beside the container
+-- each flag's global index is kept beside the container, and how many there are
 abbrev pub IsIndexed : Kept → Type 0
-IsIndexed kept = AreIndexesOf kept.release kept.container.release kept.indexes.items
+IsIndexed kept = AreIndexesOf kept.release kept.container.release kept.indexes.items kept.count
 
 module _ (row : Recorded) where
   -- the part is the first of the container at fault

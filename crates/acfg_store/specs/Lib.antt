@@ -1,3 +1,4 @@
+pub mod Applied
 pub mod Codes
 pub mod Commits
 pub mod Copies
@@ -7,10 +8,12 @@ pub mod Gathered
 pub mod Judged
 pub mod Kept
 pub mod Keys
+pub mod Marked
 pub mod Names
 pub mod Opening
 pub mod Over
 pub mod Placed
+pub mod Planned
 pub mod Records
 pub mod Sets
 pub mod Stamped

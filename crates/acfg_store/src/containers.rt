@@ -37,14 +37,16 @@ pub(crate) struct BootSlot {
     pub(crate) set: ImageSet,
 }
 
-/// The flags of a release with their overrides, in order, and the global index of each.
+/// The flags of a release with their overrides, in order, the global index of each, and how many there are.
 #[derive(Debug, Drop)]
 pub(crate) struct Flags {
     pub(crate) rows: Vec<FlagState>,
     pub(crate) indexes: Vec<u32>,
+    pub(crate) count: u32,
 }
 
-/// A container with its slots, the files of its release and of its boot copy, and the global index of each flag.
+/// A container with its slots, the files of its release and of its boot copy, the global index of each flag, and how
+/// many flags there are.
 #[derive(Debug, Drop)]
 pub(crate) struct Kept {
     pub(crate) name: ContainerName,
@@ -54,6 +56,7 @@ pub(crate) struct Kept {
     pub(crate) boot: Option<BootSlot>,
     pub(crate) container: Container,
     pub(crate) indexes: Vec<u32>,
+    pub(crate) count: u32,
 }
 
 /// The container that the files hold, or the first part of it that is at fault.
@@ -104,7 +107,7 @@ fn list_rows(
     read: &OverrideFiles,
 ) -> Result<Flags, Fault<Part>>
     ensures { Judges (λ flags. AreRowsOf row.now set.now (read_over read.now) flags.rows.items
-        × AreIndexesOf set.now (release_in flags.rows.items) flags.indexes.items)
+        × AreIndexesOf set.now (release_in flags.rows.items) flags.indexes.items flags.count)
         (IsFaultWhere row.now (OverridesStand row.now set.now (read_over read.now))) result }
 {
     let checked = match check_release(alloc, set, row) {
@@ -113,9 +116,14 @@ fn list_rows(
     };
     let flags = flags_in(alloc, &checked)?;
     let indexes = indexes_of(alloc, flags.as_slice())?;
+    let count = checked.count();
     are_bytes(read);
-    match judge_overrides(alloc, read, row.name.as_str(), checked.count(), flags) {
-        Ok(rows) => Ok(Flags { rows, indexes }),
+    match judge_overrides(alloc, read, row.name.as_str(), count, flags) {
+        Ok(rows) => Ok(Flags {
+            rows,
+            indexes,
+            count,
+        }),
         Err(fault) => Err(in_overrides(row.overrides, fault)),
     }
 }
@@ -130,7 +138,7 @@ fn judge_boot(
 ) -> Result<Kept, Fault<Part>>
     requires digest { IsDigest row.now.digest }
     requires rows { (held : overrides.OverrideFile → Option (List ℕ)) × AreRowsOf row.now set held flags.rows.items }
-    requires indexes { AreIndexesOf set (release_in flags.rows.items) flags.indexes.items }
+    requires indexes { AreIndexesOf set (release_in flags.rows.items) flags.indexes.items flags.count }
     ensures { Judges (IsMadeWhere row.now (RowsStand row.now set flags.rows.items boot))
         (IsFaultWhere row.now (RowsStand row.now set flags.rows.items boot)) result }
 {
@@ -144,6 +152,7 @@ fn judge_boot(
             boot: None,
             container: Container::kept(row.digest, flags.rows, None),
             indexes: flags.indexes,
+            count: flags.count,
         }),
         BootFiles::Bad => Err(Fault::At(Part::Pointer)),
         BootFiles::Named(slot, files) => judge_named(alloc, row, name, set, flags, slot, files),
@@ -163,7 +172,7 @@ fn judge_named(
     requires digest { IsDigest row.now.digest }
     requires name { name ≡ row.now.name }
     requires rows { (held : overrides.OverrideFile → Option (List ℕ)) × AreRowsOf row.now set held flags.rows.items }
-    requires indexes { AreIndexesOf set (release_in flags.rows.items) flags.indexes.items }
+    requires indexes { AreIndexesOf set (release_in flags.rows.items) flags.indexes.items flags.count }
     ensures { Judges (IsMadeWhere row.now (RowsStand row.now set flags.rows.items (BootFiles.Named slot files)))
         (IsFaultWhere row.now (RowsStand row.now set flags.rows.items (BootFiles.Named slot files))) result }
 {
@@ -178,6 +187,7 @@ fn judge_named(
                 boot: Some(BootSlot { slot, set: copied }),
                 container: Container::kept(row.digest, flags.rows, Some(copy)),
                 indexes: flags.indexes,
+                count: flags.count,
             })
         }
         Err(fault) => Err(in_boot(slot, fault)),

@@ -1,6 +1,7 @@
 //! The device directory: which files it has, how they are spelled, and for which state they stand.
 #![tactic(auto)]
 
+mod applying;
 mod boots;
 mod containers;
 mod faults;
@@ -8,10 +9,13 @@ mod fields;
 mod gathering;
 mod laws;
 mod locals;
+mod marking;
 mod names;
 mod opening;
 mod overrides;
+mod overriding;
 mod placed;
+mod planning;
 mod pointer;
 mod records;
 mod rows;

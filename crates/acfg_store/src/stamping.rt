@@ -88,12 +88,28 @@ fn stamp(
     requires each { length bytes.now ≡ length indexes.now }
     ensures { IfOk result (λ made. IsStamped file.now count indexes.now bytes.now made.items) }
 {
-    let mut table = vec![in alloc; 0; count]?;
-    spread(table.as_mut_slice(), indexes, bytes);
+    let table = table_of(alloc, count, indexes, bytes)?;
     let mut made = Vec::with_capacity(alloc, file.len())?;
     made.extend_from_slice(&file[..file.len() - count])?;
     made.extend_from_slice(table.as_slice())?;
     Ok(made)
+}
+
+/// A table of so many bytes: these, each at its index.
+pub(crate) fn table_of(
+    alloc: Global,
+    count: usize,
+    indexes: &[u32],
+    bytes: &[u8],
+) -> Result<Vec<u8>, AllocError>
+    requires within { All (λ index. index < count) indexes.now }
+    requires each { length bytes.now ≡ length indexes.now }
+    ensures size { IfOk result (λ table. length table.items ≡ count) }
+    ensures put { IfOk result (λ table. ArePut indexes.now bytes.now (length indexes.now) table.items) }
+{
+    let mut table = vec![in alloc; 0; count]?;
+    spread(table.as_mut_slice(), indexes, bytes);
+    Ok(table)
 }
 
 fn spread(table: &mut [u8], indexes: &[u32], bytes: &[u8])

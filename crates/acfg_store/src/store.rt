@@ -30,8 +30,8 @@ use std::marker::Model;
 /// releases and boot copies, which the store keeps.
 #[derive(Debug, Drop)]
 pub struct Store {
-    dir: String,
-    containers: Vec<Kept>,
+    pub(crate) dir: String,
+    pub(crate) containers: Vec<Kept>,
 }
 
 impl Model for Store {

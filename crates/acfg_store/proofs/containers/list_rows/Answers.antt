@@ -1,12 +1,14 @@
-use Rattle.std.proofs.Common.{ℕ, List, map, ap, ◌∙◌, subst}
+use Rattle.std.proofs.Common.{ℕ, List, map, ap, ◌∙◌, subst, sym}
 use Rattle.acfg_images.specs.declared.purpose.Use.TheVariants as purpose
 use Rattle.acfg_images.specs.Faults.{checked, parts_in}
+use Rattle.acfg_model.specs.FlagStates.{release_in}
 use Rattle.acfg_store.specs.declared.names.Part.TheVariants as part
 use Rattle.acfg_store.specs.Damage.{IsFirst, IsItsRelease}
 use Rattle.acfg_store.specs.Judged.{IsBlamed}
 use Rattle.acfg_store.specs.Kept.{IsFaultWhere, OverridesStand}
 use Rattle.acfg_store.specs.Over.{AreOverrides, IsSoundOver, read_over, three_files}
 use Rattle.acfg_store.specs.Placed.{index_of}
+use Rattle.acfg_store.proofs.Holding.{release_same}
 use Rattle.acfg_store.proofs.Judging.{fault_told, flags_counted, flags_within, overrides_fault, release_fault}
 use Rattle.acfg_store.proofs.Numbering.{indexes_listed}
 use Rattle.acfg_store.proofs.containers.list_rows.Goals as goal
@@ -40,6 +42,8 @@ returns-in-Ok-judge_overrides c =
         is_set = c.in-Ok.ensures.is_set;
         are = indexes_listed (parts_in c.in-Ok.checked) c.in_ok-flags.flags.items c.in_ok-flags.ensures.flags over.values over.infos over.locals c.in-Ok-judge_overrides.rows.items over.rows_are
             c.in_ok-indexes.indexes.items (c.in_ok-indexes.ensures ∙ ap (map index_of) c.as_slice.ensures.value);
+        count_is = c.count.ensures.flags ∙ flags_counted c.args.row.now c.args.set.now c.in-Ok.checked c.in-Ok.ensures;
+        release_is = release_same (parts_in c.in-Ok.checked) c.in_ok-flags.flags.items c.in_ok-flags.ensures.flags over.values over.infos over.locals ∙ ap release_in (sym over.rows_are);
       },
     )
 
