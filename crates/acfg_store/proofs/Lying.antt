@@ -15,7 +15,7 @@ use Rattle.acfg_store.specs.Names.{path}
 use Rattle.acfg_store.specs.Stands.{AreFiles, AreListed, Booted, Entry, Holds, IsUsed, Lies, Stands, Uses}
 
 module _ (before after : Files) (dir : List ℕ) where
-  set_frame : (name_of : FileType → List ℕ) (set : four.Files) → ((file : FileType) → after (name_of file) ≡ before (name_of file))
+  pub set_frame : (name_of : FileType → List ℕ) (set : four.Files) → ((file : FileType) → after (name_of file) ≡ before (name_of file))
       → AreFiles before name_of set → AreFiles after name_of set
   set_frame name_of set same files = record {
     package_map = same image.PackageMap ∙ files.package_map;
