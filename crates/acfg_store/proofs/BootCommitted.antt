@@ -1,6 +1,6 @@
 -- The files that a boot of one container writes: with them the directory holds the containers with that one booted, and
 -- nothing that it used before has changed until the pointer is renamed.
-use Rattle.std.proofs.Common.{◌≡◌, ◌⊎◌, ℕ, ◌<◌, List, [], map, length, get_or, set, Option, Some, None, option_map, inl, inr, refl, sym, ap, subst, ◌∙◌, arith, string_bytes}
+use Rattle.std.proofs.Common.{◌≡◌, ◌⊎◌, ℕ, ◌<◌, List, map, length, get_or, set, Option, Some, None, inl, inr, refl, sym, ap, subst, ◌∙◌, string_bytes}
 use Rattle.std.specs.Prelude.{All, Contains}
 use Rattle.std.proofs.lemmas.List.{get_or-map, get_or_default, length-map, map-set}
 use Rattle.std.proofs.lemmas.List.Elements.{All-contains, All-get_or, All-set}
@@ -13,7 +13,6 @@ use Rattle.acfg_device.specs.Left.{IsEither, LeavesSince}
 use Rattle.acfg_device.specs.Panel.{Files}
 use Rattle.acfg_device.proofs.Runs.{at_rest}
 use Rattle.acfg_images.specs.declared.fault.FileType.{FileType}
-use Rattle.acfg_images.specs.declared.fault.FileType.TheVariants as image
 use Rattle.acfg_images.specs.declared.purpose.Use.TheVariants as purpose
 use Rattle.acfg_images.specs.Files as four
 use Rattle.acfg_images.specs.Set.{IsSetOf, SetParts}
@@ -21,9 +20,8 @@ use Rattle.acfg_model.specs.State.{IsValidContainer}
 use Rattle.acfg_store.specs.declared.booting.BootPlan.{BootPlan}
 use Rattle.acfg_store.specs.declared.containers.Kept.{Kept}
 use Rattle.acfg_store.specs.declared.names.Part.{Part}
-use Rattle.acfg_store.specs.declared.names.Part.TheVariants.{Records, NewRecords, Release, Override, Pointer, NewPointer, Boot}
+use Rattle.acfg_store.specs.declared.names.Part.TheVariants.{Release, Pointer, NewPointer, Boot}
 use Rattle.acfg_store.specs.declared.names.Slot.{Slot}
-use Rattle.acfg_store.specs.declared.records.Recorded.{Recorded}
 use Rattle.acfg_store.specs.BootPlans.{IsBootPlan, IsBootedBy, LeavesBooted, booted_at, booted_entry}
 use Rattle.acfg_store.specs.Applied.{IsOpen}
 use Rattle.acfg_store.specs.Commits.{IsCommit, IsLayout, LeavesEither}

@@ -7,7 +7,6 @@ use Rattle.std.specs.Option.{option_map_or}
 use Rattle.std.proofs.lemmas.List.Folds.{Any-from_list_any}
 use Rattle.std.proofs.lemmas.List.{get_or-map, get_or_default, length-map}
 use Rattle.std.proofs.lemmas.List.Elements.{All-contains}
-use Rattle.std.proofs.lemmas.Bool.Decides.{nat_tests}
 use Rattle.std.proofs.lemmas.Bool.{eqb-true}
 use Rattle.std.proofs.lemmas.Simd.{map-map}
 use Rattle.acfg_base.specs.declared.releases.Kind.{Kind}
@@ -34,7 +33,6 @@ use Rattle.acfg_store.specs.Kept.{index_listed}
 use Rattle.acfg_store.specs.Picked.{AreOnWritable, HasRows, IsCopyFor, noted_byte, pick_byte}
 use Rattle.acfg_store.specs.Records.{bit}
 use Rattle.acfg_store.specs.Stamped.{AreFlagsIn, ArePut}
-use Rattle.acfg_store.specs.Stands.{boot_notes, boot_release}
 use Rattle.acfg_store.proofs.OneSet.{one_parts}
 use Rattle.acfg_store.proofs.Written.{byte_put, facts}
 use Rattle.acfg_views.specs.Layout.{Flag}

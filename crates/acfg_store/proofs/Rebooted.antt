@@ -1,5 +1,5 @@
 -- What a boot of one container leaves: the other containers as they were, and that one with its boot copy anew.
-use Rattle.std.proofs.Common.{◌≡◌, ◌≢◌, ◌⊎◌, inl, inr, ℕ, zero, suc, ◌<◌, Bool, true, false, List, [], ◌∷◌, length, get_or, set, map, Option, Some, None, option_map, string_bytes, refl, sym, ap, subst, ◌∙◌, arith}
+use Rattle.std.proofs.Common.{◌≡◌, ◌⊎◌, inl, inr, ℕ, zero, suc, ◌<◌, Bool, true, false, List, [], ◌∷◌, length, get_or, set, map, Option, Some, None, option_map, string_bytes, refl, sym, ap, subst, ◌∙◌, arith}
 use Rattle.std.specs.Map.{update}
 use Rattle.std.specs.Str.{bytes_eq}
 use Rattle.std.specs.Prelude.{All, Contains, IsSomeAnd}
@@ -20,13 +20,13 @@ use Rattle.acfg_device.proofs.Naming.{update_apart, update_here}
 use Rattle.acfg_images.specs.declared.fault.FileType.{FileType}
 use Rattle.acfg_images.specs.declared.fault.FileType.TheVariants as image
 use Rattle.acfg_images.specs.Files as four
-use Rattle.acfg_model.specs.State.{Container, IsValid, State, name_cmp}
+use Rattle.acfg_model.specs.State.{IsValid, name_cmp}
 use Rattle.acfg_model.specs.Step.{boot_map, booted}
 use Rattle.acfg_model.proofs.Kept.{IsValid-replaced, name_exact, name_total}
 use Rattle.acfg_model.proofs.Valid.{IsValidContainer-booted}
 use Rattle.acfg_store.specs.declared.names.OverrideFile.TheVariants as override
 use Rattle.acfg_store.specs.declared.names.Part.{Part}
-use Rattle.acfg_store.specs.declared.names.Part.TheVariants.{Records, NewRecords, Release, Override, Pointer, NewPointer, Boot}
+use Rattle.acfg_store.specs.declared.names.Part.TheVariants.{Records, Release, Override, Pointer, NewPointer, Boot}
 use Rattle.acfg_store.specs.declared.names.Slot.{Slot}
 use Rattle.acfg_store.specs.declared.names.Slot.TheVariants.{Zero, One}
 use Rattle.acfg_store.specs.BootPlans.{AreBootFiles, booted_entry, spare_slot}

@@ -1,8 +1,8 @@
 -- Private: what a boot of one container writes, and how the container lies behind it. No public clause cites it.
-use Rattle.std.specs.Prelude.{◌≡◌, ℕ, List, [], ◌∷◌, slice_index_or, slice_set, Option, Some, None, option_map, string_bytes}
+use Rattle.std.specs.Prelude.{◌≡◌, ℕ, List, [], ◌∷◌, slice_index_or, slice_set, string_bytes}
+use Rattle.std.specs.Prelude.{Option, Some, None, option_map}
 use Rattle.acfg_device.specs.Panel.{Files}
 use Rattle.acfg_commit.specs.declared.several.NewFile.{NewFile}
-use Rattle.acfg_images.specs.declared.fault.FileType.{FileType}
 use Rattle.acfg_images.specs.declared.fault.FileType.TheVariants as image
 use Rattle.acfg_images.specs.declared.purpose.Use.TheVariants as purpose
 use Rattle.acfg_images.specs.Files as four

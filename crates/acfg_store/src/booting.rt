@@ -1,5 +1,5 @@
-//! What a boot of one container writes: its boot copy in the slot that isn't named, and the pointer to it. All memory is
-//! taken here.
+//! What a boot of one container writes: its boot copy in the slot that isn't named, and the pointer to it. All memory
+//! is taken here.
 
 ghost use Rattle.std.specs.Prelude.{◌≡◌, IfOk, option_map, string_bytes};
 ghost use Rattle.acfg_model.specs.State.{IsValidContainer};

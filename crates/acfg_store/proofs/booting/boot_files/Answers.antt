@@ -1,4 +1,4 @@
-use Rattle.std.proofs.Common.{List, subst}
+use Rattle.std.proofs.Common.{subst}
 use Rattle.acfg_images.specs.declared.fault.FileType.TheVariants as image
 use Rattle.acfg_store.specs.declared.names.Part.TheVariants.{Boot}
 use Rattle.acfg_store.specs.BootPlans.{IsFile}

@@ -1,8 +1,6 @@
-use Rattle.std.proofs.Common.{◌≡◌, List, ℕ, map, Some, ap, subst, sym, ◌∙◌}
-use Rattle.acfg_base.specs.Release.{entries_of}
+use Rattle.std.proofs.Common.{◌≡◌, List, ℕ, map, Some, ap, subst, ◌∙◌}
 use Rattle.acfg_store.specs.declared.names.Part.TheVariants.{NewPointer, Pointer}
 use Rattle.acfg_store.specs.BootPlans.{AreBootFiles}
-use Rattle.acfg_store.specs.Kept.{index_listed}
 use Rattle.acfg_store.specs.Names.{path}
 use Rattle.acfg_store.proofs.Picking.{flags_again, writable_rows}
 use Rattle.acfg_store.proofs.booting.plan_boot.Goals as goal

@@ -8,7 +8,6 @@ use Rattle.acfg_store.specs.BootPlans.{IsBootPlan, IsBootedBy, LeavesBooted, boo
 use Rattle.acfg_store.specs.Kept.{entry_of}
 use Rattle.acfg_store.specs.Names.{IsOfDirectory}
 use Rattle.acfg_store.specs.Opening.{all_sets_of, entries_of}
-use Rattle.acfg_store.specs.Stands.{Entry}
 use Rattle.acfg_store.specs.Store.{StoreView}
 use Rattle.acfg_store.proofs.BootCommitted.{boot_leaves, boot_rests, booted_apart, booted_own, entries_booted, kept_booted, kept_valid, layout_booted, leaves_more, sets_booted}
 use Rattle.acfg_store.proofs.store.Store.boot_at.Goals as goal
