@@ -80,14 +80,35 @@ fn boot_files(
 ) -> Result<Vec<NewFile>, OutOfMemory>
     ensures { IfOk result (λ files. AreBootFiles dir.now name.now slot set.now files.items) }
 {
-    let package_map = boot_file(alloc, dir, name, Part::Boot(slot, FileType::PackageMap), set.package_map())?;
-    let flag_map = boot_file(alloc, dir, name, Part::Boot(slot, FileType::FlagMap), set.flag_map())?;
-    let values = boot_file(alloc, dir, name, Part::Boot(slot, FileType::FlagVal), set.flag_val())?;
-    let infos = boot_file(alloc, dir, name, Part::Boot(slot, FileType::FlagInfo), set.flag_info())?;
-    Ok(Vec::from_array(
+    let package_map = boot_file(
         alloc,
-        [package_map, flag_map, values, infos],
-    )?)
+        dir,
+        name,
+        Part::Boot(slot, FileType::PackageMap),
+        set.package_map(),
+    )?;
+    let flag_map = boot_file(
+        alloc,
+        dir,
+        name,
+        Part::Boot(slot, FileType::FlagMap),
+        set.flag_map(),
+    )?;
+    let values = boot_file(
+        alloc,
+        dir,
+        name,
+        Part::Boot(slot, FileType::FlagVal),
+        set.flag_val(),
+    )?;
+    let infos = boot_file(
+        alloc,
+        dir,
+        name,
+        Part::Boot(slot, FileType::FlagInfo),
+        set.flag_info(),
+    )?;
+    Ok(Vec::from_array(alloc, [package_map, flag_map, values, infos])?)
 }
 
 fn boot_file(
