@@ -1,11 +1,10 @@
 -- The indexes of flags that were found are those that the set lists.
-use Rattle.std.proofs.Common.{◌≡◌, ℕ, ◌<◌, List, [], ◌∷◌, map, length, get_or, Option, Some, option_map, refl, sym, ap, ◌∙◌}
+use Rattle.std.proofs.Common.{◌≡◌, ℕ, List, [], ◌∷◌, map, get_or, Option, Some, option_map, refl, sym, ap, ◌∙◌}
 use Rattle.std.specs.Prelude.{All, Contains}
 use Rattle.std.specs.Cmp.{tied_itself}
 use Rattle.std.proofs.lemmas.List.{get_or_default}
 use Rattle.std.proofs.lemmas.List.Elements.{All-head, All-tail}
-use Rattle.acfg_base.specs.declared.releases.Entry.{Entry}
-use Rattle.acfg_base.specs.Release.{ReleaseMap, entries_of, facts_of, key_of, release_of}
+use Rattle.acfg_base.specs.Release.{entries_of, facts_of, key_of, release_of}
 use Rattle.acfg_base.proofs.Keys.{entries_of-release_of, key_total}
 use Rattle.acfg_base.proofs.Rows.{AreInOrder-map, map_of-map, row_at-member}
 use Rattle.acfg_images.specs.Set.{Listed, SetParts}

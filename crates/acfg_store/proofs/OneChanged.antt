@@ -1,5 +1,5 @@
 -- What a change of one container makes of those that are kept, and of the state.
-use Rattle.std.proofs.Common.{◌≡◌, ℕ, false, ◌<◌, ◌≤◌, List, map, length, get_or, set, Option, Some, None, Result, Ok, Err, option_map, refl, sym, ap, subst, ◌∙◌, arith}
+use Rattle.std.proofs.Common.{◌≡◌, ℕ, false, ◌<◌, List, map, length, get_or, set, Option, Some, None, Result, Ok, Err, option_map, refl, sym, ap, subst, ◌∙◌, arith}
 use Rattle.std.specs.Prelude.{All}
 use Rattle.std.specs.FinMap.{get, insert}
 use Rattle.std.proofs.lemmas.List.{get_or-map, get_or_default, length-map, length-set, map-set, set-get_or}
@@ -14,9 +14,9 @@ use Rattle.acfg_model.specs.declared.refusals.Refusal.{Refusal}
 use Rattle.acfg_model.specs.declared.refusals.Refusal.TheVariants.{UnknownContainer}
 use Rattle.acfg_model.specs.declared.requests.Reply.{Reply}
 use Rattle.acfg_model.specs.declared.requests.Reply.TheVariants.{Fine}
-use Rattle.acfg_model.specs.State.{BootMap, Container, IsValidContainer, State, most_containers, name_cmp}
+use Rattle.acfg_model.specs.State.{Container, IsValidContainer, State, name_cmp}
 use Rattle.acfg_model.specs.Step.{change_refusal, change_step, changed, refused, replaced, unless, with_change}
-use Rattle.acfg_model.proofs.Kept.{name_exact, name_total, some_inside}
+use Rattle.acfg_model.proofs.Kept.{name_exact, name_total}
 use Rattle.acfg_store.specs.declared.containers.Kept.{Kept}
 use Rattle.acfg_store.specs.declared.records.Recorded.{Recorded}
 use Rattle.acfg_store.specs.Keys.{recorded_name}

@@ -1,21 +1,19 @@
 -- The files that a change of overrides writes: with them the directory holds the containers with the one changed, and
 -- nothing that it used before has changed until the list is renamed.
-use Rattle.std.proofs.Common.{◌≡◌, ◌⊎◌, ℕ, false, zero, suc, ◌<◌, List, [], ◌∷◌, map, length, get_or, set, Option, Some, None, option_map, option_and_then, inl, inr, refl, sym, ap, subst, ◌∙◌, arith, string_bytes}
+use Rattle.std.proofs.Common.{◌≡◌, ◌⊎◌, ℕ, false, zero, suc, ◌<◌, List, [], ◌∷◌, map, length, get_or, set, Option, Some, None, inl, inr, refl, sym, ap, subst, ◌∙◌, arith, string_bytes}
 use Rattle.std.specs.Prelude.{All, Contains}
-use Rattle.std.specs.FinMap.{get}
 use Rattle.std.specs.Map.{update}
 use Rattle.std.specs.Str.{bytes_eq}
 use Rattle.std.proofs.lemmas.Bool.{cases_eq}
-use Rattle.std.proofs.lemmas.List.{get_or-map, get_or_default, get_or-set_other, get_or-set_same, length-map, length-set, map-set}
+use Rattle.std.proofs.lemmas.List.{get_or-map, get_or-set_other, get_or-set_same, length-map, length-set, map-set}
 use Rattle.std.proofs.lemmas.List.Elements.{All-contains, All-get_or, All-set}
 use Rattle.acfg_base.specs.Names.{IsContainer}
-use Rattle.acfg_base.specs.Places.{AreInOrder}
 use Rattle.acfg_commit.specs.declared.several.NewFile.{NewFile}
 use Rattle.acfg_commit.specs.Written.{IsNameAmong, replaced, written}
 use Rattle.acfg_commit.proofs.Files.{replaced_here, replaced_others, written_others}
 use Rattle.acfg_device.specs.Account.{Account}
 use Rattle.acfg_device.specs.Disk.{IsSettled, told}
-use Rattle.acfg_device.specs.Left.{IsEither, LeavesSince, SameBut}
+use Rattle.acfg_device.specs.Left.{IsEither, LeavesSince}
 use Rattle.acfg_device.specs.Panel.{Files}
 use Rattle.acfg_device.proofs.Naming.{update_apart, update_here}
 use Rattle.acfg_device.proofs.Runs.{at_rest}
@@ -26,7 +24,7 @@ use Rattle.acfg_images.specs.Files as four
 use Rattle.acfg_images.specs.Set.{IsSetOf, SetParts, listing}
 use Rattle.acfg_model.specs.declared.changes.Change.{Change}
 use Rattle.acfg_model.specs.declared.requests.Reply.{Reply}
-use Rattle.acfg_model.specs.State.{BootMap, Container, State, name_cmp}
+use Rattle.acfg_model.specs.State.{State}
 use Rattle.acfg_model.specs.Step.{change_step}
 use Rattle.acfg_store.specs.Applied.{IsBetween, IsOpen, LeavesBetween, state_in}
 use Rattle.acfg_store.specs.declared.containers.Kept.{Kept}
@@ -37,7 +35,7 @@ use Rattle.acfg_store.specs.declared.names.Part.TheVariants.{Boot, NewRecords, O
 use Rattle.acfg_store.specs.declared.names.Slot.{Slot}
 use Rattle.acfg_store.specs.declared.names.Slot.TheVariants.{Zero, One}
 use Rattle.acfg_store.specs.declared.planning.Plan.{Plan}
-use Rattle.acfg_store.specs.Commits.{ChangesOne, IsCommit, IsLayout, LeavesEither, LeavesState}
+use Rattle.acfg_store.specs.Commits.{ChangesOne, IsCommit, IsLayout, LeavesState}
 use Rattle.acfg_store.specs.Kept.{entry_of, sets_of}
 use Rattle.acfg_store.specs.Names.{IsOfDirectory, path}
 use Rattle.acfg_store.specs.Opening.{AreKept, KeepsFiles, all_sets_of, entries_of}

@@ -1,6 +1,6 @@
 -- The files that are written of an override slot hold the overrides, over the flags that the release's set lists.
-use Rattle.std.proofs.Common.{◌≡◌, ℕ, ◌+◌, ◌-◌, ◌*◌, ◌<◌, ◌≤◌, Bool, false, List, [], ◌++◌, map, length, get_or, take, Option, Some, None, is_some, unwrap_or, sym, ap, ◌∙◌, arith}
-use Rattle.std.specs.Prelude.{All, Contains, option_and_then}
+use Rattle.std.proofs.Common.{◌≡◌, ℕ, ◌+◌, ◌-◌, ◌*◌, ◌<◌, ◌≤◌, false, List, [], ◌++◌, map, length, get_or, take, Some, None, is_some, unwrap_or, sym, ap, ◌∙◌, arith}
+use Rattle.std.specs.Prelude.{All, option_and_then}
 use Rattle.std.specs.FinMap.{get}
 use Rattle.std.proofs.lemmas.List.{get_or_default, length-map}
 use Rattle.std.proofs.lemmas.List.Elements.{All-contains}
@@ -16,7 +16,7 @@ use Rattle.acfg_images.proofs.Restamped.{list_again}
 use Rattle.acfg_model.specs.declared.containers.FlagState.{FlagState}
 use Rattle.acfg_model.specs.FlagStates.{row_key, server_in}
 use Rattle.acfg_store.specs.Records.{bit}
-use Rattle.acfg_store.specs.Stamped.{AreFlagsIn, ArePut, IsStamped, info_byte, value_byte}
+use Rattle.acfg_store.specs.Stamped.{AreFlagsIn, IsStamped, info_byte, value_byte}
 use Rattle.acfg_store.specs.Stands.{AreBytesOf, server_info, server_value}
 use Rattle.acfg_store.proofs.Placing.{indexes_below}
 use Rattle.acfg_store.proofs.Written.{byte_put, facts, listed_row, same_count}

@@ -1,6 +1,6 @@
 -- Files with a byte put for each flag hold the flags' overrides.
 use Rattle.std.proofs.Common.{◌≡◌, ◌⊎◌, ℕ, ◌<◌, Bool, true, eqb, List, map, length, get_or, Option, Some, None, option_map, inl, inr, refl, sym, ap, ◌∙◌, subst, arith}
-use Rattle.std.specs.Prelude.{All, Contains, count_by}
+use Rattle.std.specs.Prelude.{Contains}
 use Rattle.std.specs.FinMap.{get}
 use Rattle.std.specs.Cmp.{tied_itself}
 use Rattle.std.proofs.lemmas.Bool.{cases_eq}
@@ -9,14 +9,13 @@ use Rattle.std.proofs.lemmas.List.{get_or-map, get_or_default, length-map}
 use Rattle.std.proofs.lemmas.List.Elements.{All-contains}
 use Rattle.std.proofs.lemmas.Simd.{map-map}
 use Rattle.acfg_base.specs.declared.releases.Kind.{Kind}
-use Rattle.acfg_base.specs.declared.releases.Entry.{Entry}
 use Rattle.acfg_base.specs.Places.{row_at}
-use Rattle.acfg_base.specs.Release.{Key, ReleaseMap, entries_of, facts_of, key_cmp, key_of, release_of}
+use Rattle.acfg_base.specs.Release.{ReleaseMap, entries_of, facts_of, key_cmp, key_of}
 use Rattle.acfg_base.proofs.Keys.{entries_of-release_of, key_exact, key_total}
 use Rattle.acfg_base.proofs.Rows.{AreInOrder-map, get-map_of, map_of-map, row_at-found, row_at-member}
 use Rattle.acfg_images.specs.declared.purpose.Use.TheVariants as purpose
 use Rattle.acfg_images.specs.Files as four
-use Rattle.acfg_images.specs.Set.{Listed, SetParts, flags_of, index_of, listed_flag, listed_key, listing, packages_of}
+use Rattle.acfg_images.specs.Set.{Listed, SetParts, flags_of, listed_flag, listed_key, listing}
 use Rattle.acfg_images.specs.Words.{AreNumbered}
 use Rattle.acfg_images.proofs.Pigeon.{AreNumbered-below, counted_twice}
 use Rattle.acfg_model.specs.declared.containers.FlagState.{FlagState}

@@ -1,9 +1,8 @@
-use Rattle.std.proofs.Common.{ℕ, List, ◌≡◌, ◌<◌, length, map, ◌∙◌, ap, subst, sym}
+use Rattle.std.proofs.Common.{List, ◌≡◌, ◌<◌, length, map, ◌∙◌, ap, subst, sym}
 use Rattle.std.proofs.lemmas.Result.{IfOk-weaker}
 use Rattle.acfg_store.specs.declared.locals.LocalOverride.{LocalOverride}
 use Rattle.acfg_store.specs.Marked.{local_mark, marked_from}
 use Rattle.acfg_store.specs.Records.{locals_bytes}
-use Rattle.acfg_store.specs.Stamped.{ArePut}
 use Rattle.acfg_store.proofs.MarksHold.{locals_hold, marked_small}
 use Rattle.acfg_store.proofs.Writing.{all_within, as_many}
 use Rattle.acfg_store.proofs.marking.write_local.Goals as goal

@@ -1,4 +1,4 @@
-use Rattle.std.proofs.Common.{ℕ, List, ◌≡◌, length, rules, subst, sym}
+use Rattle.std.proofs.Common.{◌≡◌, length, rules, subst, sym}
 use Rattle.acfg_store.specs.Stamped.{ArePut}
 use Rattle.acfg_store.proofs.Spreading.{given_back}
 use Rattle.acfg_store.proofs.stamping.table_of.Goals as goal

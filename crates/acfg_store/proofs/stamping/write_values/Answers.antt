@@ -1,4 +1,4 @@
-use Rattle.std.proofs.Common.{ℕ, List, ◌≡◌, ◌≤◌, length, map, ◌∙◌, ap, subst, sym}
+use Rattle.std.proofs.Common.{ℕ, List, ◌≡◌, ◌≤◌, length, map, ◌∙◌, subst, sym}
 use Rattle.std.proofs.lemmas.Result.{IfOk-weaker}
 use Rattle.acfg_store.specs.Stamped.{IsStamped, value_byte}
 use Rattle.acfg_store.proofs.Writing.{all_within, as_many, values_fit, values_written}

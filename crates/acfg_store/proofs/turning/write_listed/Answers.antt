@@ -1,4 +1,4 @@
-use Rattle.std.proofs.Common.{ℕ, List, ◌≤◌, length, ◌∙◌, subst, sym}
+use Rattle.std.proofs.Common.{List, ◌≤◌, length, ◌∙◌, subst, sym}
 use Rattle.acfg_model.specs.State.{most_containers}
 use Rattle.acfg_store.specs.declared.records.Recorded.{Recorded}
 use Rattle.acfg_store.proofs.turning.write_listed.Goals as goal

@@ -1,4 +1,4 @@
-use Rattle.std.proofs.Common.{ℕ, false, List, ◌≡◌, ◌⊎◌, refl, ap, subst, sym, ◌∙◌, string_bytes}
+use Rattle.std.proofs.Common.{ℕ, false, List, ◌≡◌, ◌⊎◌, refl, ap, subst, sym, string_bytes}
 use Rattle.acfg_commit.specs.Written.{IsNameAmong, replaced, written}
 use Rattle.acfg_device.specs.Left.{IsEither, LeavesSince}
 use Rattle.acfg_model.specs.State.{State}

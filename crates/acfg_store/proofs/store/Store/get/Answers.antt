@@ -3,7 +3,7 @@ use Rattle.std.specs.FinMap.{get}
 use Rattle.acfg_base.specs.Places.{AreInOrder, StandsAt, WouldStandAt}
 use Rattle.acfg_base.specs.Release.{Key}
 use Rattle.acfg_model.specs.declared.requests.Reply.TheVariants.{Refused}
-use Rattle.acfg_model.specs.State.{Container, State, name_cmp}
+use Rattle.acfg_model.specs.State.{Container, name_cmp}
 use Rattle.acfg_model.specs.Step.{boot_value_in, value_reply}
 use Rattle.acfg_store.specs.Applied.{state_in}
 use Rattle.acfg_store.specs.declared.containers.Kept.{Kept}

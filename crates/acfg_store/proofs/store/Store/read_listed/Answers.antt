@@ -1,6 +1,6 @@
 use Rattle.std.proofs.Common.{◌∙◌, List, subst, sym}
 use Rattle.acfg_store.specs.Commits.{IsLayout}
-use Rattle.acfg_store.specs.Opening.{all_sets_of, entries_of}
+use Rattle.acfg_store.specs.Opening.{entries_of}
 use Rattle.acfg_store.specs.Sets.{AreSetsOfAll, Sets}
 use Rattle.acfg_store.specs.Stands.{Entry}
 use Rattle.acfg_store.proofs.Opened.{listed_layout}
