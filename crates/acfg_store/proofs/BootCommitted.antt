@@ -35,22 +35,10 @@ use Rattle.acfg_store.specs.Stands.{AreFiles, Entry, Holds, IsUsed, Uses, record
 use Rattle.acfg_store.specs.Store.{StoreView}
 use Rattle.acfg_store.proofs.Apart.{path_part}
 use Rattle.acfg_store.proofs.Changing.{commit_leaves}
-use Rattle.acfg_store.proofs.Lying.{set_frame}
+use Rattle.acfg_store.proofs.Lying.{one_files, set_frame}
 use Rattle.acfg_store.proofs.Opened.{layout_stands}
 use Rattle.acfg_store.proofs.Rebooted.{among, commit_booted, new_others, recorded_set, stand_new}
 use Rattle.acfg_store.proofs.Stored.{all_kept}
-
-some_is : {A : Type 0} (x y : A) → Some x ≡ Some y → x ≡ y
-some_is x y e = cc
-
--- four names have the files of one set at most
-one_files : (files : Files) (name_of : FileType → List ℕ) (a b : four.Files) → AreFiles files name_of a → AreFiles files name_of b → a ≡ b
-one_files files name_of a b at_a at_b =
-    let p = some_is a.package_map b.package_map (sym at_a.package_map ∙ at_b.package_map) in
-    let f = some_is a.flag_map b.flag_map (sym at_a.flag_map ∙ at_b.flag_map) in
-    let v = some_is a.flag_val b.flag_val (sym at_a.flag_val ∙ at_b.flag_val) in
-    let n = some_is a.flag_info b.flag_info (sym at_a.flag_info ∙ at_b.flag_info) in
-    λ i. record { package_map = p i; flag_map = f i; flag_val = v i; flag_info = n i }
 
 -- a container that is kept is valid
 pub kept_valid : (old : List Kept) → AreKept old → (at : ℕ) → at < length old → (one : Kept) → one ≡ get_or old at one → IsValidContainer one.container
@@ -208,6 +196,3 @@ pub boot_rests : (account : Account) (first : Files) (store : StoreView) (at : �
 boot_rests account first store at files settled opened =
     at_rest (LeavesBooted first account.now.said store at) first account.now.said files refl settled
     (λ other. record { words = refl; state = state_of store.entries; is_one = inl refl; stands = layout_stands first store.dir store.entries opened.layout; others = λ name foreign. refl })
-
-pub leaves_more : (start end : Account) (Less More : Files → List ℕ → Type 0) → ((files : Files) (said : List ℕ) → Less files said → More files said) → LeavesSince start end Less → LeavesSince start end More
-leaves_more start end Less More more cut = record { later = cut.later; each = λ files said left. more files said (cut.each files said left) }

@@ -1,3 +1,4 @@
+pub mod AllBooted
 pub mod Apart
 pub mod Blaming
 pub mod BootCommitted

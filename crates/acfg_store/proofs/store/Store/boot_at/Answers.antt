@@ -9,7 +9,8 @@ use Rattle.acfg_store.specs.Kept.{entry_of}
 use Rattle.acfg_store.specs.Names.{IsOfDirectory}
 use Rattle.acfg_store.specs.Opening.{all_sets_of, entries_of}
 use Rattle.acfg_store.specs.Store.{StoreView}
-use Rattle.acfg_store.proofs.BootCommitted.{boot_leaves, boot_rests, booted_apart, booted_own, entries_booted, kept_booted, kept_valid, layout_booted, leaves_more, sets_booted}
+use Rattle.acfg_store.proofs.Changing.{leaves_more}
+use Rattle.acfg_store.proofs.BootCommitted.{boot_leaves, boot_rests, booted_apart, booted_own, entries_booted, kept_booted, kept_valid, layout_booted, sets_booted}
 use Rattle.acfg_store.proofs.store.Store.boot_at.Goals as goal
 
 pub plan_boot-requires-clause-valid : goal.plan_boot-requires-clause-valid
