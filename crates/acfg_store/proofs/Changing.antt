@@ -3,7 +3,8 @@ use Rattle.std.proofs.Common.{◌≡◌, ◌⊎◌, ℕ, List, get_or, inl, inr,
 use Rattle.std.specs.Prelude.{Contains}
 use Rattle.std.proofs.lemmas.List.{get_or_default}
 use Rattle.std.proofs.lemmas.List.Elements.{All-contains}
-use Rattle.acfg_device.specs.Left.{IsEither, SameBut}
+use Rattle.acfg_device.specs.Account.{Account}
+use Rattle.acfg_device.specs.Left.{IsEither, LeavesSince, SameBut}
 use Rattle.acfg_device.specs.Panel.{Files}
 use Rattle.acfg_store.specs.Commits.{ChangesOne, IsCommit, IsKept, IsLayout, LeavesEither}
 use Rattle.acfg_store.specs.Names.{IsOfDirectory}
@@ -49,3 +50,7 @@ one_changes dir entries later entry first new lies change = record {
     held : (other : Entry) → (other ≡ entry) ⊎ (Contains entries other × IsKept dir other first new) → Holds new dir other
     held other (inl same) = subst (Holds new dir) (sym same) change.holds
     held other (inr kept) = holds_frame first new dir other kept.1 (All-contains (Holds first dir) entries other lies.each kept.0)
+
+-- what is left has less, and so it has more
+pub leaves_more : (start end : Account) (Less More : Files → List ℕ → Type 0) → ((files : Files) (said : List ℕ) → Less files said → More files said) → LeavesSince start end Less → LeavesSince start end More
+leaves_more start end Less More more cut = record { later = cut.later; each = λ files said left. more files said (cut.each files said left) }

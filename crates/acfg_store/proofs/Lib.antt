@@ -1,5 +1,7 @@
+pub mod AllBooted
 pub mod Apart
 pub mod Blaming
+pub mod BootCommitted
 pub mod Changing
 pub mod Damaging
 pub mod Faulting
@@ -22,8 +24,10 @@ pub mod Opened
 pub mod Overlaid
 pub mod OverridesCommitted
 pub mod OwnKeys
+pub mod Picking
 pub mod Placing
 pub mod Reading
+pub mod Rebooted
 pub mod Rowed
 pub mod Showing
 pub mod Spreading

@@ -1,5 +1,5 @@
 -- Files that agree on the names that a directory uses stand for the same.
-use Rattle.std.proofs.Common.{◌≡◌, ℕ, ◌<◌, List, [], length, get_or, Option, Some, None, inl, inr, refl, ◌∙◌}
+use Rattle.std.proofs.Common.{◌≡◌, ℕ, ◌<◌, List, [], length, get_or, Option, Some, None, inl, inr, refl, sym, ◌∙◌}
 use Rattle.std.specs.Prelude.{Contains, IsSomeAnd}
 use Rattle.std.proofs.lemmas.List.{get_or_default}
 use Rattle.acfg_device.specs.Panel.{Files}
@@ -15,7 +15,7 @@ use Rattle.acfg_store.specs.Names.{path}
 use Rattle.acfg_store.specs.Stands.{AreFiles, AreListed, Booted, Entry, Holds, IsUsed, Lies, Stands, Uses}
 
 module _ (before after : Files) (dir : List ℕ) where
-  set_frame : (name_of : FileType → List ℕ) (set : four.Files) → ((file : FileType) → after (name_of file) ≡ before (name_of file))
+  pub set_frame : (name_of : FileType → List ℕ) (set : four.Files) → ((file : FileType) → after (name_of file) ≡ before (name_of file))
       → AreFiles before name_of set → AreFiles after name_of set
   set_frame name_of set same files = record {
     package_map = same image.PackageMap ∙ files.package_map;
@@ -94,3 +94,15 @@ module _ (before after : Files) (dir : List ℕ) where
     valid = stands.valid;
     lies = lies_frame stands.entries same stands.lies;
   }
+
+some_is : {A : Type 0} (x y : A) → Some x ≡ Some y → x ≡ y
+some_is x y e = cc
+
+-- four names have the files of one set at most
+pub one_files : (files : Files) (name_of : FileType → List ℕ) (a b : four.Files) → AreFiles files name_of a → AreFiles files name_of b → a ≡ b
+one_files files name_of a b at_a at_b =
+    let p = some_is a.package_map b.package_map (sym at_a.package_map ∙ at_b.package_map) in
+    let f = some_is a.flag_map b.flag_map (sym at_a.flag_map ∙ at_b.flag_map) in
+    let v = some_is a.flag_val b.flag_val (sym at_a.flag_val ∙ at_b.flag_val) in
+    let n = some_is a.flag_info b.flag_info (sym at_a.flag_info ∙ at_b.flag_info) in
+    λ i. record { package_map = p i; flag_map = f i; flag_val = v i; flag_info = n i }

@@ -47,28 +47,16 @@ use Rattle.acfg_store.specs.Store.{StoreView}
 use Rattle.acfg_store.specs.Turned.{other_slot}
 use Rattle.acfg_store.proofs.Apart.{path_part}
 use Rattle.acfg_store.proofs.Changing.{commit_leaves, one_changes}
-use Rattle.acfg_store.proofs.Lying.{holds_frame}
+use Rattle.acfg_store.proofs.Lying.{holds_frame, one_files}
 use Rattle.acfg_store.proofs.OneSet.{one_parts}
 use Rattle.acfg_store.proofs.Opened.{entries_in_order, layout_stands, layout_valid}
 use Rattle.acfg_store.proofs.Stored.{all_kept}
 use Rattle.acfg_store.proofs.Unused.{not_used}
 use Rattle.acfg_views.specs.Layout.{flag_info_type, flag_val_type}
 
-some_is : {A : Type 0} (x y : A) → Some x ≡ Some y → x ≡ y
-some_is x y e = cc
-
 other_apart : (slot : Slot) → other_slot slot ≡ slot → ⊥
 other_apart Zero e = cc
 other_apart One e = cc
-
--- four names have the files of one set at most
-one_files : (files : Files) (name_of : FileType → List ℕ) (a b : four.Files) → AreFiles files name_of a → AreFiles files name_of b → a ≡ b
-one_files files name_of a b at_a at_b =
-    let p = some_is a.package_map b.package_map (sym at_a.package_map ∙ at_b.package_map) in
-    let f = some_is a.flag_map b.flag_map (sym at_a.flag_map ∙ at_b.flag_map) in
-    let v = some_is a.flag_val b.flag_val (sym at_a.flag_val ∙ at_b.flag_val) in
-    let n = some_is a.flag_info b.flag_info (sym at_a.flag_info ∙ at_b.flag_info) in
-    λ i. record { package_map = p i; flag_map = f i; flag_val = v i; flag_info = n i }
 
 -- an item of a list with another in its place is that one or one of the list
 in_set : {X : Type 0} (xs : List X) (at : ℕ) (one : X) → at < length xs → (x : X) → Contains (set xs at one) x → (x ≡ one) ⊎ Contains xs x
@@ -114,9 +102,6 @@ either_between first spoken dir a b new files said same leaves = record {
     go : (leaves.state ≡ a) ⊎ (leaves.state ≡ b) → IsBetween a new leaves.state
     go (inl e) = inl e
     go (inr e) = subst (IsBetween a new) (same ∙ sym e) (new_between a new)
-
-pub leaves_more : (start end : Account) (P Q : Files → List ℕ → Type 0) → ((files : Files) (said : List ℕ) → P files said → Q files said) → LeavesSince start end P → LeavesSince start end Q
-leaves_more start end P Q goes leaves = record { later = leaves.later; each = λ files said left. goes files said (leaves.each files said left) }
 
 -- and so it is of a call that does nothing
 pub rests : (account : Account) (first : Files) (store : StoreView) (new : State) → first ≡ told account.now → IsSettled account.now → IsOpen first store

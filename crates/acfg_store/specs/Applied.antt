@@ -16,7 +16,13 @@
 --         → IfOk result (λ made. IsSettled (D.account device.new).now) }
 --
 -- The clause `memory` is of a call of one commit: it takes its memory before the first write. Where several commits
--- follow each other, it says instead that the device is settled and that the files stand for a state between.
+-- follow each other, it says instead that the files stand for a state between, as after a cut; and `rests` that the
+-- device is settled then too:
+--
+--     ensures memory { IsTrue D.tells → result ≡ Err OutOfMemory
+--         → LeavesBetween first (D.said device.old) self outcome.0 (D.files device.new) (D.said device.new) }
+--     ensures rests { IsTrue D.tells → IsSettled start.now → result ≡ Err OutOfMemory
+--         → IsSettled (D.account device.new).now }
 use Rattle.std.specs.Prelude.{◌≡◌, ◌⊎◌, ⊤, ℕ, List, Option, None, option_map, option_and_then}
 use Rattle.std.specs.FinMap.{get}
 use Rattle.acfg_device.specs.Panel.{Files}

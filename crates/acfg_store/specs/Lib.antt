@@ -1,4 +1,5 @@
 pub mod Applied
+pub mod BootPlans
 pub mod Codes
 pub mod Commits
 pub mod Copies
@@ -12,6 +13,7 @@ pub mod Marked
 pub mod Names
 pub mod Opening
 pub mod Over
+pub mod Picked
 pub mod Placed
 pub mod Planned
 pub mod Records

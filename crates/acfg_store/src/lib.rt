@@ -2,8 +2,10 @@
 #![tactic(auto)]
 
 mod applying;
+mod booting;
 mod boots;
 mod containers;
+mod copying;
 mod faults;
 mod fields;
 mod gathering;
@@ -18,6 +20,7 @@ mod placed;
 mod planning;
 mod pointer;
 mod records;
+mod restarting;
 mod rows;
 mod sets;
 mod slots;

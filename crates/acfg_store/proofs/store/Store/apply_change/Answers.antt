@@ -9,7 +9,8 @@ use Rattle.acfg_store.specs.Names.{IsOfDirectory}
 use Rattle.acfg_store.specs.Opening.{all_sets_of, entries_of}
 use Rattle.acfg_store.specs.Planned.{IsPlanned}
 use Rattle.acfg_store.specs.Store.{StoreView}
-use Rattle.acfg_store.proofs.OverridesCommitted.{cut_leaves, layout_of, leaves_more, names_apart, own_of, rests, sets_of_all}
+use Rattle.acfg_store.proofs.Changing.{leaves_more}
+use Rattle.acfg_store.proofs.OverridesCommitted.{cut_leaves, layout_of, names_apart, own_of, rests, sets_of_all}
 use Rattle.acfg_store.proofs.store.Store.apply_change.Goals as goal
 
 pub returns-in_err-plan-in-Ok-clause-cut : goal.returns-in_err-plan-in-Ok-clause-cut
