@@ -1,7 +1,9 @@
+pub mod Added
 pub mod Apart
 pub mod Blaming
 pub mod Changing
 pub mod Damaging
+pub mod Entering
 pub mod Faulting
 pub mod Faultless
 pub mod Fronts
@@ -9,6 +11,7 @@ pub mod Holding
 pub mod Indexed
 pub mod Judging
 pub mod Keeping
+pub mod Known
 pub mod Listed
 pub mod Lying
 pub mod Marks
@@ -22,12 +25,17 @@ pub mod Opened
 pub mod Overlaid
 pub mod OverridesCommitted
 pub mod OwnKeys
+pub mod Parcels
 pub mod Placing
 pub mod Reading
+pub mod Renewed
 pub mod Rowed
 pub mod Showing
+pub mod SlotsMade
+pub mod SlotsWritten
 pub mod Spreading
 pub mod Stored
 pub mod Unused
+pub mod UpdateCommitted
 pub mod Writing
 pub mod Written

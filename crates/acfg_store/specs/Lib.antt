@@ -22,3 +22,4 @@ pub mod Store
 pub mod StoreFaults
 pub mod Taken
 pub mod Turned
+pub mod Updated

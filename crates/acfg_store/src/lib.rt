@@ -7,6 +7,7 @@ mod containers;
 mod faults;
 mod fields;
 mod gathering;
+mod installing;
 mod laws;
 mod locals;
 mod marking;
@@ -25,6 +26,7 @@ mod stamping;
 mod store;
 mod store_fault;
 mod turning;
+mod updating;
 
 pub use laws::{
     commits_leave_states, names_are_apart, nothing_stands, one_container_changes, one_damage,
