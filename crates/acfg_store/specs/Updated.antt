@@ -23,7 +23,8 @@ use Rattle.acfg_store.specs.Kept.{entry_of, index_listed, sets_of}
 use Rattle.acfg_store.specs.Names.{path}
 use Rattle.acfg_store.specs.Opening.{all_sets_of, entries_of as entries_kept}
 use Rattle.acfg_store.specs.Records.{records_bytes}
-use Rattle.acfg_store.specs.Stands.{AreBytesOf, AreLocalsOf, Entry, IsRead, recorded, server_info, server_value, state_of}
+use Rattle.acfg_store.specs.Stands.{AreBytesOf, AreLocalsOf, Entry, IsRead, recorded, server_info, server_value}
+use Rattle.acfg_store.specs.Stands.{state_of}
 use Rattle.acfg_store.specs.Store.{StoreView}
 use Rattle.acfg_store.specs.Turned.{other_slot}
 use Rattle.acfg_views.specs.Layout.{flag_info_type, flag_val_type}
