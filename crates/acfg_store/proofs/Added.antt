@@ -1,5 +1,5 @@
 -- A new container takes its place among those that are kept: what state they make then, and that its names were free.
-use Rattle.std.proofs.Common.{◌≡◌, ⊎_elim, ◌⊎◌, ℕ, ◌+◌, ◌<◌, ◌≤◌, List, map, get_or, length, Some, None, inl, inr, refl, sym, ap, ◌∙◌, subst, arith}
+use Rattle.std.proofs.Common.{◌≡◌, ⊎_elim, ◌⊎◌, ℕ, ◌+◌, ◌<◌, ◌≤◌, List, [], ◌∷◌, map, get_or, length, Some, None, inl, inr, refl, sym, ap, ◌∙◌, subst, arith}
 use Rattle.std.specs.Prelude.{All, Contains}
 use Rattle.std.specs.FinMap.{get, insert, len}
 use Rattle.std.specs.List as lists
@@ -154,3 +154,9 @@ module _ (kept : List Kept) (are : AreKept kept) (name : List ℕ) (at : ℕ) (a
 
         pub added_boot_set : IsBootSet (unpointed dir name first) dir (kept_name one) (entry_of one).boot_slot (sets_of one).boot
         added_boot_set = subst (λ (both : Entry × Sets). IsBootSet (unpointed dir name first) dir both.0.name both.0.boot_slot both.1.boot) (λ i. (sym new.entry i, sym new.sets i)) tt
+
+-- where no more fit, a new container is refused
+pub full_refused : (kept : List Kept) → AreKept kept → (name : List ℕ) (at : ℕ) → WouldStandAt name_cmp kept_name kept name at → (incoming : Incoming) → most_containers ≤ length kept
+    → outcome_of kept name incoming ≡ pair_of (state_of (entries_of kept)) (Refused 11)
+full_refused [] are name at gap incoming full = absurd (omega (arith, full))
+full_refused (one ∷ rest) are name at gap incoming full = step_full (one ∷ rest) are name at one gap incoming full

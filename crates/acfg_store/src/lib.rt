@@ -1,6 +1,7 @@
 //! The device directory: which files it has, how they are spelled, and for which state they stand.
 #![tactic(auto)]
 
+mod accepting;
 mod applying;
 mod boots;
 mod containers;
