@@ -24,7 +24,7 @@ module _ (before after : Files) (dir : List ℕ) where
     flag_info = same image.FlagInfo ∙ files.flag_info;
   }
 
-  booted_frame : (name : List ℕ) (slot : Option Slot) (boot : Option BootMap) → after (path dir name Pointer) ≡ before (path dir name Pointer)
+  pub booted_frame : (name : List ℕ) (slot : Option Slot) (boot : Option BootMap) → after (path dir name Pointer) ≡ before (path dir name Pointer)
       → ((other : Slot) (file : FileType) → IsSomeAnd slot (λ named. other ≡ named) → after (path dir name (Boot other file)) ≡ before (path dir name (Boot other file)))
       → Booted before dir name slot boot → Booted after dir name slot boot
   booted_frame name None None pointer same booted = pointer ∙ booted

@@ -24,3 +24,4 @@ pub mod Store
 pub mod StoreFaults
 pub mod Taken
 pub mod Turned
+pub mod Updated

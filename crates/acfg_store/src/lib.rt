@@ -1,6 +1,7 @@
 //! The device directory: which files it has, how they are spelled, and for which state they stand.
 #![tactic(auto)]
 
+mod accepting;
 mod applying;
 mod booting;
 mod boots;
@@ -9,6 +10,7 @@ mod copying;
 mod faults;
 mod fields;
 mod gathering;
+mod installing;
 mod laws;
 mod locals;
 mod marking;
@@ -28,6 +30,7 @@ mod stamping;
 mod store;
 mod store_fault;
 mod turning;
+mod updating;
 
 pub use laws::{
     commits_leave_states, names_are_apart, nothing_stands, one_container_changes, one_damage,
