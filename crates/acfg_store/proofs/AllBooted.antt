@@ -10,7 +10,6 @@ use Rattle.acfg_device.specs.Left.{SameBut}
 use Rattle.acfg_device.specs.Only.{OnlyChanges}
 use Rattle.acfg_device.specs.Panel.{Files}
 use Rattle.acfg_device.specs.declared.panel.Panel.{Ghosts}
-use Rattle.acfg_model.specs.declared.requests.Reply.{Reply}
 use Rattle.acfg_model.specs.declared.requests.Reply.TheVariants.{Fine}
 use Rattle.acfg_model.specs.State.{Container, State, name_cmp}
 use Rattle.acfg_model.specs.Step.{booted}

@@ -31,7 +31,7 @@ use Rattle.acfg_store.specs.Opening.{AreKept, KeepsFiles, all_sets_of, entries_o
 use Rattle.acfg_store.specs.Picked.{IsCopyFor}
 use Rattle.acfg_store.specs.Records.{AreRecords, IsRecorded, pointer_bytes}
 use Rattle.acfg_store.specs.Sets.{AreSetsOf, AreSetsOfAll, IsBootSet, Sets}
-use Rattle.acfg_store.specs.Stands.{AreFiles, Entry, Holds, IsUsed, Uses, recorded, state_of}
+use Rattle.acfg_store.specs.Stands.{Entry, Holds, IsUsed, Uses, recorded, state_of}
 use Rattle.acfg_store.specs.Store.{StoreView}
 use Rattle.acfg_store.proofs.Apart.{path_part}
 use Rattle.acfg_store.proofs.Changing.{commit_leaves}

@@ -1,4 +1,4 @@
-use Rattle.std.proofs.Common.{◌≡◌, IsTrue, ℕ, List, Option, None}
+use Rattle.std.proofs.Common.{IsTrue}
 use Rattle.acfg_device.specs.Disk.{IsSettled}
 use Rattle.acfg_device.specs.Left.{LeavesSince}
 use Rattle.acfg_device.specs.Only.{OnlyChanges}
