@@ -30,6 +30,7 @@ pub mod Placing
 pub mod Reading
 pub mod Renewed
 pub mod Rowed
+pub mod SetListed
 pub mod Showing
 pub mod SlotsMade
 pub mod SlotsWritten
