@@ -34,6 +34,7 @@ pub mod Reading
 pub mod Rebooted
 pub mod Renewed
 pub mod Rowed
+pub mod SetListed
 pub mod Showing
 pub mod SlotsMade
 pub mod SlotsWritten

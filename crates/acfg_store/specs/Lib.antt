@@ -1,3 +1,4 @@
+pub mod Admitted
 pub mod Applied
 pub mod BootPlans
 pub mod Codes
@@ -9,6 +10,7 @@ pub mod Gathered
 pub mod Judged
 pub mod Kept
 pub mod Keys
+pub mod Loading
 pub mod Marked
 pub mod Names
 pub mod Opening

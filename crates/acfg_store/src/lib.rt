@@ -2,6 +2,7 @@
 #![tactic(auto)]
 
 mod accepting;
+mod admitting;
 mod applying;
 mod booting;
 mod boots;

@@ -1,4 +1,4 @@
-use Rattle.std.proofs.Common.{rules, ◌≡◌, ℕ, ◌≤◌, List, length, refl, ap, ◌∙◌, subst, sym}
+use Rattle.std.proofs.Common.{rules, ℕ, ◌≤◌, List, length, refl, ap, ◌∙◌, subst, sym}
 use Rattle.acfg_device.specs.Left.{LeavesSince}
 use Rattle.acfg_model.specs.declared.requests.Reply.TheVariants.{Refused}
 use Rattle.acfg_model.specs.State.{State, most_containers}
