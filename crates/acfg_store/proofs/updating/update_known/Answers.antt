@@ -12,7 +12,8 @@ use Rattle.acfg_store.specs.Opening.{AreKept, entries_of}
 use Rattle.acfg_store.specs.Stands.{state_of}
 use Rattle.acfg_store.specs.Updated.{AreWrites, IsIncoming, outcome_of, view_of}
 use Rattle.acfg_store.proofs.Known.{known_booted, known_boot_set, known_kept, known_rest, known_there, known_unused, lawful_of, step_known, was_name}
-use Rattle.acfg_store.proofs.OverridesCommitted.{leaves_more, rests}
+use Rattle.acfg_store.proofs.Changing.{leaves_more}
+use Rattle.acfg_store.proofs.OverridesCommitted.{rests}
 use Rattle.acfg_store.proofs.UpdateCommitted.{cut_leaves, names_apart, not_fault, opened_after, own_of}
 use Rattle.acfg_store.proofs.updating.update_known.Goals as goal
 

@@ -22,7 +22,8 @@ use Rattle.acfg_store.specs.Opening.{AreKept, entries_of}
 use Rattle.acfg_store.specs.Stands.{state_of}
 use Rattle.acfg_store.specs.Updated.{AreWrites, outcome_of, view_of}
 use Rattle.acfg_store.proofs.Added.{added_boot_set, added_booted, added_in, added_kept, added_others, added_unused, from_first, new_name, removing_leaves, step_added, still_open, unpointed}
-use Rattle.acfg_store.proofs.OverridesCommitted.{leaves_more, rests}
+use Rattle.acfg_store.proofs.Changing.{leaves_more}
+use Rattle.acfg_store.proofs.OverridesCommitted.{rests}
 use Rattle.acfg_store.proofs.UpdateCommitted.{cut_leaves, names_apart, not_fault, opened_after, own_of}
 use Rattle.acfg_store.proofs.updating.update_new.Goals as goal
 
