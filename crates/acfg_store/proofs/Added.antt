@@ -1,5 +1,5 @@
 -- A new container takes its place among those that are kept: what state they make then, and that its names were free.
-use Rattle.std.proofs.Common.{◌≡◌, ⊎_elim, ◌⊎◌, ℕ, ◌+◌, ◌<◌, ◌≤◌, List, [], ◌∷◌, map, get_or, length, Some, None, inl, inr, refl, sym, ap, ◌∙◌, subst, arith}
+use Rattle.std.proofs.Common.{◌≡◌, ⊎_elim, ◌⊎◌, ℕ, ◌<◌, ◌≤◌, List, [], ◌∷◌, map, get_or, length, None, inl, inr, refl, sym, ap, ◌∙◌, subst, arith}
 use Rattle.std.specs.Prelude.{All, Contains}
 use Rattle.std.specs.FinMap.{get, insert, len}
 use Rattle.std.specs.List as lists
@@ -9,7 +9,7 @@ use Rattle.std.proofs.lemmas.List.{get_or-map, get_or_default, length-map}
 use Rattle.std.proofs.lemmas.List.Edits.{get_or-insert_at, length-insert}
 use Rattle.acfg_base.specs.Names.{IsContainer}
 use Rattle.acfg_base.specs.Places.{WouldStandAt}
-use Rattle.acfg_device.specs.Left.{IsEither, SameBut}
+use Rattle.acfg_device.specs.Left.{IsEither}
 use Rattle.acfg_device.specs.Panel.{Files}
 use Rattle.acfg_device.proofs.Naming.{update_apart, update_here}
 use Rattle.acfg_model.specs.declared.requests.Reply.TheVariants.{Refused, Updated}
@@ -19,16 +19,16 @@ use Rattle.acfg_model.proofs.Kept.{pair_of, release_step-added, release_step-ful
 use Rattle.acfg_store.specs.declared.containers.Kept.{Kept}
 use Rattle.acfg_store.specs.declared.installing.Incoming.{Incoming}
 use Rattle.acfg_store.specs.declared.names.Part.{Part}
-use Rattle.acfg_store.specs.declared.names.Part.TheVariants.{Records, Pointer}
+use Rattle.acfg_store.specs.declared.names.Part.TheVariants.{Pointer}
 use Rattle.acfg_store.specs.Applied.{IsBetween, IsOpen}
-use Rattle.acfg_store.specs.Commits.{IsLayout, LeavesState}
-use Rattle.acfg_store.specs.Kept.{IsIndexed, entry_of, kept_name, sets_of}
-use Rattle.acfg_store.specs.Names.{IsOfDirectory, path}
-use Rattle.acfg_store.specs.Opening.{AreKept, KeepsFiles, entries_of}
+use Rattle.acfg_store.specs.Commits.{LeavesState}
+use Rattle.acfg_store.specs.Kept.{HasCopy, IsCopied, IsIndexed, entry_of, kept_name, sets_of}
+use Rattle.acfg_store.specs.Names.{path}
+use Rattle.acfg_store.specs.Opening.{AreKept, entries_of}
 use Rattle.acfg_store.specs.Records.{AreRecords}
 use Rattle.acfg_store.specs.Sets.{IsBootSet, Sets}
-use Rattle.acfg_store.specs.Stands.{Booted, Entry, IsUsed, Uses, entry_name, recorded, state_of}
-use Rattle.acfg_store.specs.Updated.{IsNew, IsSlotPart, new_entry, outcome_of, view_of}
+use Rattle.acfg_store.specs.Stands.{Booted, Entry, IsUsed, entry_name, recorded, state_of}
+use Rattle.acfg_store.specs.Updated.{IsNew, IsSlotPart, outcome_of, view_of}
 use Rattle.acfg_store.proofs.Changing.{commit_leaves}
 use Rattle.acfg_store.proofs.Entering.{All-insert, Valid, added_listed, added_valid, count_is, map-insert, none_named, state_absent, state_added}
 use Rattle.acfg_store.proofs.Known.{indexed, slot_no_list}
@@ -122,11 +122,15 @@ module _ (kept : List Kept) (are : AreKept kept) (name : List ℕ) (at : ℕ) (a
     entry_room : length (entries_of kept) < most_containers
     entry_room = omega (arith, room, length-map kept entry_of)
 
+    one_copied : IsCopied one
+    one_copied = subst (λ (both : Entry × Sets). HasCopy both.1.boot both.0.container.boot) (λ i. (sym new.entry i, sym new.sets i)) tt
+
     pub added_kept : AreKept (lists.insert kept at one)
     added_kept = record {
       listed = subst (λ (es : List Entry). AreRecords (map recorded es)) (sym entries_added) (added_listed (entries_of kept) are.listed are.valid name at entry_gap (entry_of one) new_name new.valid lawful entry_room);
       valid = subst (All Valid) (sym entries_added) (added_valid (entries_of kept) are.listed are.valid name at entry_gap (entry_of one) new_name new.valid lawful entry_room);
       indexed = All-insert IsIndexed kept at one (indexed one new.release) are.indexed;
+      copied = All-insert IsCopied kept at one one_copied are.copied;
     }
 
     pub added_in : Contains (lists.insert kept at one) one

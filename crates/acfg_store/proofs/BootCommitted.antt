@@ -1,10 +1,6 @@
--- The files that a boot of one container writes: with them the directory holds the containers with that one booted, and
--- nothing that it used before has changed until the pointer is renamed.
-use Rattle.std.proofs.Common.{◌≡◌, ◌⊎◌, ℕ, ◌<◌, List, map, length, get_or, set, Option, Some, None, inl, inr, refl, sym, ap, subst, ◌∙◌, string_bytes}
-use Rattle.std.specs.Prelude.{All, Contains}
-use Rattle.std.proofs.lemmas.List.{get_or-map, get_or_default, length-map, map-set}
-use Rattle.std.proofs.lemmas.List.Elements.{All-contains, All-get_or, All-set}
-use Rattle.acfg_base.specs.Names.{IsContainer}
+-- A boot of one container: what it writes is the boot copy that the container makes.
+use Rattle.std.proofs.Common.{◌≡◌, ◌⊎◌, ℕ, ◌<◌, List, length, get_or, set, inl, refl, sym, ap, subst, ◌∙◌, string_bytes}
+use Rattle.std.proofs.lemmas.List.Elements.{All-get_or}
 use Rattle.acfg_commit.specs.declared.several.NewFile.{NewFile}
 use Rattle.acfg_commit.specs.Written.{IsNameAmong, replaced, written}
 use Rattle.acfg_device.specs.Account.{Account}
@@ -16,179 +12,77 @@ use Rattle.acfg_images.specs.declared.fault.FileType.{FileType}
 use Rattle.acfg_images.specs.declared.purpose.Use.TheVariants as purpose
 use Rattle.acfg_images.specs.Files as four
 use Rattle.acfg_images.specs.Set.{IsSetOf, SetParts}
-use Rattle.acfg_model.specs.State.{IsValidContainer}
+use Rattle.acfg_model.specs.State.{BootMap, IsValidContainer}
+use Rattle.acfg_model.specs.Step.{boot_map, booted}
+use Rattle.acfg_model.proofs.Valid.{IsValidContainer-booted}
 use Rattle.acfg_store.specs.declared.booting.BootPlan.{BootPlan}
 use Rattle.acfg_store.specs.declared.containers.Kept.{Kept}
-use Rattle.acfg_store.specs.declared.names.Part.{Part}
-use Rattle.acfg_store.specs.declared.names.Part.TheVariants.{Release, Pointer, NewPointer, Boot}
-use Rattle.acfg_store.specs.declared.names.Slot.{Slot}
-use Rattle.acfg_store.specs.BootPlans.{IsBootPlan, IsBootedBy, LeavesBooted, booted_at, booted_entry}
+use Rattle.acfg_store.specs.declared.names.Part.TheVariants.{Release}
 use Rattle.acfg_store.specs.Applied.{IsOpen}
-use Rattle.acfg_store.specs.Commits.{IsCommit, IsLayout, LeavesEither}
-use Rattle.acfg_store.specs.Kept.{IsIndexed, entry_of, sets_of}
+use Rattle.acfg_store.specs.BootPlans.{IsBootPlan, IsBootedBy, LeavesBooted, booted_at, with_copy}
+use Rattle.acfg_store.specs.Commits.{IsLayout, LeavesEither}
+use Rattle.acfg_store.specs.Kept.{IsIndexed, entry_of}
 use Rattle.acfg_store.specs.Names.{IsOfDirectory, path}
-use Rattle.acfg_store.specs.Opening.{AreKept, KeepsFiles, all_sets_of, entries_of}
-use Rattle.acfg_store.specs.Picked.{IsCopyFor}
-use Rattle.acfg_store.specs.Records.{AreRecords, IsRecorded, pointer_bytes}
-use Rattle.acfg_store.specs.Sets.{AreSetsOf, AreSetsOfAll, IsBootSet, Sets}
-use Rattle.acfg_store.specs.Stands.{Entry, Holds, IsUsed, Uses, recorded, state_of}
+use Rattle.acfg_store.specs.Opening.{AreKept, all_sets_of, entries_of}
+use Rattle.acfg_store.specs.Renewing.{IsCopyWith}
+use Rattle.acfg_store.specs.Sets.{AreSetsOfAll}
+use Rattle.acfg_store.specs.Stands.{Entry, state_of}
 use Rattle.acfg_store.specs.Store.{StoreView}
-use Rattle.acfg_store.proofs.Apart.{path_part}
-use Rattle.acfg_store.proofs.Changing.{commit_leaves}
-use Rattle.acfg_store.proofs.Lying.{one_files, set_frame}
+use Rattle.acfg_store.proofs.CopyCommitted.{copy_apart, copy_leaves, copy_own, entries_set, holds_one, keeps_one, kept_copied, kept_valid, layout_copied, one_at, sets_copied}
+use Rattle.acfg_store.proofs.Lying.{one_files}
 use Rattle.acfg_store.proofs.Opened.{layout_stands}
-use Rattle.acfg_store.proofs.Rebooted.{among, commit_booted, new_others, recorded_set, stand_new}
-use Rattle.acfg_store.proofs.Stored.{all_kept}
-
--- a container that is kept is valid
-pub kept_valid : (old : List Kept) → AreKept old → (at : ℕ) → at < length old → (one : Kept) → one ≡ get_or old at one → IsValidContainer one.container
-kept_valid old kept at within one is =
-    let entry : Entry = entry_of one in
-    let same : get_or (entries_of old) at entry ≡ entry = get_or-map entry_of old at one entry within ∙ ap entry_of (sym is) in
-    subst (λ (e : Entry). IsValidContainer e.container) same
-    (All-get_or (λ (e : Entry). IsValidContainer e.container) (entries_of old) at entry (subst (λ (n : ℕ). at < n) (sym (length-map old entry_of)) within) kept.valid)
 
 module _ (dir : List ℕ) (old : List Kept) (kept : AreKept old) (at : ℕ) (within : at < length old) (one : Kept) (is : one ≡ get_or old at one) (plan : BootPlan) (planned : IsBootPlan dir one plan) where
-  abbrev entry : Entry
-  entry = entry_of one
-
-  below : at < length (entries_of old)
-  below = subst (λ (n : ℕ). at < n) (sym (length-map old entry_of)) within
-
-  entry_is : entry ≡ get_or (entries_of old) at entry
-  entry_is = ap entry_of is ∙ sym (get_or-map entry_of old at one entry within)
-
-  in_list : Contains (entries_of old) entry
-  in_list = (at, below, sym entry_is)
-
-  lawful : IsContainer one.name
-  lawful =
-      let row : recorded entry ≡ get_or (map recorded (entries_of old)) at (recorded entry) = ap recorded entry_is ∙ sym (get_or-map recorded (entries_of old) at entry (recorded entry) below) in
-      (subst IsRecorded (sym row) (kept.listed.each at (recorded entry) (subst (λ (n : ℕ). at < n) (sym (length-map (entries_of old) recorded)) below))).name
+  abbrev boot : BootMap
+  boot = boot_map one.container
 
   -- all names that are written are of the directory
-  pub booted_own : (files : List NewFile) (beside name : List ℕ) → files ≡ plan.files.items → beside ≡ string_bytes plan.beside → name ≡ string_bytes plan.pointer
+  pub booted_own : (files : List NewFile) (beside name : List ℕ) → files ≡ plan.writes.files.items → beside ≡ string_bytes plan.writes.beside → name ≡ string_bytes plan.writes.pointer
       → (other : List ℕ) → IsNameAmong files other ⊎ ((other ≡ beside) ⊎ (other ≡ name)) → IsOfDirectory dir other
-  booted_own files beside name files_are beside_is name_is other (inl written) =
-      let slot_name = among dir one.name plan.boot.slot plan.boot.set plan.files.items planned.files (λ _. None) other (subst (λ (files : List NewFile). IsNameAmong files other) files_are written) in
-      record { container = one.name; part = Boot plan.boot.slot slot_name.0; lawful = lawful; spelled = slot_name.1 }
-  booted_own files beside name files_are beside_is name_is other (inr (inl same)) = record { container = one.name; part = NewPointer; lawful = lawful; spelled = same ∙ beside_is ∙ planned.beside }
-  booted_own files beside name files_are beside_is name_is other (inr (inr same)) = record { container = one.name; part = Pointer; lawful = lawful; spelled = same ∙ name_is ∙ planned.pointer }
+  booted_own = copy_own dir old kept at within one is plan.writes planned.writes
 
-  pub booted_apart : (beside name : List ℕ) → beside ≡ string_bytes plan.beside → name ≡ string_bytes plan.pointer → beside ≡ name → ⊥
-  booted_apart beside name beside_is name_is same =
-      let parts : NewPointer ≡ Pointer = path_part dir dir one.name one.name NewPointer Pointer (sym planned.beside ∙ sym beside_is ∙ same ∙ name_is ∙ planned.pointer) in cc
+  pub booted_apart : (beside name : List ℕ) → beside ≡ string_bytes plan.writes.beside → name ≡ string_bytes plan.writes.pointer → beside ≡ name → ⊥
+  booted_apart = copy_apart dir old kept at within one is plan.writes planned.writes
 
-  module _ (new : Kept) (by : IsBootedBy plan.boot one new) where
-    entry_new : entry_of new ≡ booted_entry entry
-    entry_new = ap entry_of by.is ∙ ap (λ (slot : Slot). record (booted_entry entry) { boot_slot = Some slot }) planned.slot
+  later_is : (other : Entry) → set (entries_of old) at (with_copy (entry_of one) boot) ≡ booted_at (entries_of old) at other
+  later_is other = ap (λ (e : Entry). set (entries_of old) at (with_copy e (boot_map e.container))) (one_at dir old kept at within one is plan.writes planned.writes other)
 
-    entries_set : entries_of (set old at new) ≡ set (entries_of old) at (booted_entry entry)
-    entries_set = map-set entry_of old at new ∙ ap (set (entries_of old) at) entry_new
+  valid : IsValidContainer (booted one.container)
+  valid = IsValidContainer-booted one.container (kept_valid old kept at within one is)
 
+  module _ (new : Kept) (by : IsBootedBy plan.writes.boot one new) where
     pub entries_booted : (other : Entry) → entries_of (set old at new) ≡ booted_at (entries_of old) at other
-    entries_booted other = entries_set ∙ ap (λ (e : Entry). set (entries_of old) at (booted_entry e)) (entry_is ∙ get_or_default (entries_of old) at entry other below)
+    entries_booted other = entries_set dir old kept at within one is plan.writes planned.writes boot new by ∙ later_is other
 
     pub kept_booted : AreKept (set old at new)
-    kept_booted = record {
-      listed = subst AreRecords (sym (ap (map recorded) entries_set ∙ recorded_set (entries_of old) at entry below entry_is)) kept.listed;
-      valid = subst (All (λ (e : Entry). IsValidContainer e.container)) (sym (map-set entry_of old at new))
-          (All-set (λ (e : Entry). IsValidContainer e.container) (entries_of old) at (entry_of new) by.valid kept.valid);
-      indexed = All-set IsIndexed old at new
-          (subst IsIndexed (sym by.is) (subst IsIndexed (sym is) (All-get_or IsIndexed old at one within kept.indexed))) kept.indexed;
-    }
+    kept_booted =
+        let indexed : IsIndexed one = subst IsIndexed (sym is) (All-get_or IsIndexed old at one within kept.indexed) in
+        kept_copied dir old kept at within one is plan.writes planned.writes boot new by (indexed.parts.package_map.container, planned.set indexed.parts indexed.is_set)
 
   module _ (first : Files) (layout : IsLayout first dir (entries_of old)) (sets : AreSetsOfAll first dir (entries_of old) (all_sets_of old)) where
-    keeps_each : All (KeepsFiles first dir) old
-    keeps_each k d inside =
-        let low : k < length (entries_of old) = subst (λ (n : ℕ). k < n) (sym (length-map old entry_of)) inside in
-        subst (λ (both : Entry × Sets). AreSetsOf first dir both.0 both.1)
-        (λ i. (get_or-map entry_of old k d (entry_of d) inside i, get_or-map sets_of old k d (sets_of d) inside i))
-        (sets.each k (entry_of d) (sets_of d) low)
-
-    keeps_one : KeepsFiles first dir one
-    keeps_one = subst (KeepsFiles first dir) (sym is) (keeps_each at one within)
-
-    holds_one : Holds first dir entry
-    holds_one = All-contains (Holds first dir) (entries_of old) entry layout.lies.each in_list
-
-    same_set : holds_one.release.set ≡ one.release
-    same_set = one_files first (λ (file : FileType). path dir one.name (Release one.release_slot file)) holds_one.release.set one.release holds_one.release.stand keeps_one.release
-
-    copy : IsCopyFor plan.boot.set one.name one.container
+    copy : IsCopyWith plan.writes.boot.set one.name boot
     copy =
-        let parts : SetParts = holds_one.release.is_set.parts in
-        subst (λ (name : List ℕ). IsCopyFor plan.boot.set name one.container) holds_one.release.is_set.container_is
-        (planned.set parts (subst (λ (s : four.Files). IsSetOf s purpose.Release parts) same_set holds_one.release.is_set.files_are))
+        let holds = holds_one dir old kept at within one is plan.writes planned.writes first layout sets in
+        let keeps = keeps_one dir old kept at within one is plan.writes planned.writes first layout sets in
+        let parts : SetParts = holds.release.is_set.parts in
+        let same : holds.release.set ≡ one.release = one_files first (λ (file : FileType). path dir one.name (Release one.release_slot file)) holds.release.set one.release holds.release.stand keeps.release in
+        subst (λ (name : List ℕ). IsCopyWith plan.writes.boot.set name boot) holds.release.is_set.container_is
+        (planned.set parts (subst (λ (s : four.Files). IsSetOf s purpose.Release parts) same holds.release.is_set.files_are))
 
-    abbrev after : Files
-    after = replaced (path dir one.name NewPointer) (path dir one.name Pointer) (pointer_bytes plan.boot.slot) (written plan.files.items first)
-
-    commit_is : IsCommit dir (entries_of old) (set (entries_of old) at (booted_entry entry)) (λ other. IsNameAmong plan.files.items other ⊎ (other ≡ path dir one.name NewPointer)) first after
-    commit_is = commit_booted dir (entries_of old) first layout at entry below entry_is plan.boot.slot plan.boot.set plan.files.items planned.files planned.slot copy
-
-    -- a file that is used is as it was, but for the pointer
-    used_same : (e : Entry) → Contains (entries_of old) e → (part : Part) → Uses e part → (part ≡ Pointer → ⊥) → after (path dir e.name part) ≡ first (path dir e.name part)
-    used_same e e_in part uses no_pointer = new_others dir one.name plan.boot.slot plan.boot.set plan.files.items planned.files first (path dir e.name part) changed
-      where
-        used : IsUsed dir (entries_of old) (path dir e.name part)
-        used = inr (record { entry = e; among = e_in; part = part; uses = uses; spelled = refl })
-
-        changed : IsNameAmong plan.files.items (path dir e.name part) ⊎ ((path dir e.name part ≡ path dir one.name NewPointer) ⊎ (path dir e.name part ≡ path dir one.name Pointer)) → ⊥
-        changed (inl written) = commit_is.free (path dir e.name part) (inl written) used
-        changed (inr (inl same)) = commit_is.free (path dir e.name part) (inr same) used
-        changed (inr (inr same)) = no_pointer (path_part dir dir e.name one.name part Pointer same)
-
-    boot_framed : (e : Entry) → Contains (entries_of old) e → (slot : Option Slot) → e.boot_slot ≡ slot → (set : Option four.Files) → IsBootSet first dir e.name slot set → IsBootSet after dir e.name slot set
-    boot_framed e e_in None slot_is None stands = stands
-    boot_framed e e_in None slot_is (Some set) stands = stands
-    boot_framed e e_in (Some slot) slot_is None stands = stands
-    boot_framed e e_in (Some slot) slot_is (Some set) stands =
-        set_frame first after dir (λ (file : FileType). path dir e.name (Boot slot file)) set (λ file. used_same e e_in (Boot slot file) (rw slot_is refl) (λ same. cc)) stands
-
-    kept_framed : (k : Kept) → Contains (entries_of old) (entry_of k) → KeepsFiles first dir k → KeepsFiles after dir k
-    kept_framed k k_in keeps = record {
-      release = set_frame first after dir (λ (file : FileType). path dir k.name (Release k.release_slot file)) k.release (λ file. used_same (entry_of k) k_in (Release k.release_slot file) refl (λ same. cc)) keeps.release;
-      boot = boot_framed (entry_of k) k_in (entry_of k).boot_slot refl (sets_of k).boot keeps.boot;
-    }
-
-    kept_in : (k : ℕ) (d : Kept) → k < length old → Contains (entries_of old) (entry_of (get_or old k d))
-    kept_in k d inside = (k, subst (λ (n : ℕ). k < n) (sym (length-map old entry_of)) inside, get_or-map entry_of old k d (entry_of (get_or old k d)) inside)
-
-    keeps_after : All (KeepsFiles after dir) old
-    keeps_after k d inside = kept_framed (get_or old k d) (kept_in k d inside) (keeps_each k d inside)
-
-    later_is : (other : Entry) → set (entries_of old) at (booted_entry entry) ≡ booted_at (entries_of old) at other
-    later_is other = ap (λ (e : Entry). set (entries_of old) at (booted_entry e)) (entry_is ∙ get_or_default (entries_of old) at entry other below)
-
-    commit_one : (other : Entry) → IsCommit dir (entries_of old) (booted_at (entries_of old) at other) (λ name. IsNameAmong plan.files.items name ⊎ (name ≡ path dir one.name NewPointer)) first after
-    commit_one other = subst (λ (later : List Entry). IsCommit dir (entries_of old) later (λ name. IsNameAmong plan.files.items name ⊎ (name ≡ path dir one.name NewPointer)) first after) (later_is other) commit_is
-
-    module _ (files : List NewFile) (beside name bytes : List ℕ) (files_are : files ≡ plan.files.items) (beside_is : beside ≡ string_bytes plan.beside) (name_is : name ≡ string_bytes plan.pointer) (bytes_are : bytes ≡ plan.bytes.items) where
-      after_is : replaced beside name bytes (written files first) ≡ after
-      after_is i = replaced ((beside_is ∙ planned.beside) i) ((name_is ∙ planned.pointer) i) ((bytes_are ∙ planned.bytes) i) (written (files_are i) first)
-
+    module _ (files : List NewFile) (beside name bytes : List ℕ) (files_are : files ≡ plan.writes.files.items) (beside_is : beside ≡ string_bytes plan.writes.beside) (name_is : name ≡ string_bytes plan.writes.pointer) (bytes_are : bytes ≡ plan.writes.bytes.items) where
       pub boot_leaves : (spoken : List ℕ) (left : Files) (said : List ℕ)
           → IsEither first spoken (λ other. IsNameAmong files other ⊎ (other ≡ beside)) (replaced beside name bytes (written files first)) left said
           → (other : Entry) → LeavesEither first spoken dir (entries_of old) (booted_at (entries_of old) at other) left said
       boot_leaves spoken left said either other =
-          commit_leaves dir (entries_of old) (booted_at (entries_of old) at other) (λ name. IsNameAmong plan.files.items name ⊎ (name ≡ path dir one.name NewPointer)) first after spoken left said (commit_one other)
-          (subst (λ (t : List NewFile × (List ℕ × Files)). IsEither first spoken (λ (other : List ℕ). IsNameAmong t.0 other ⊎ (other ≡ t.1.0)) t.1.1 left said)
-          (λ i. (files_are i, ((beside_is ∙ planned.beside) i, after_is i))) either)
+          subst (λ (later : List Entry). LeavesEither first spoken dir (entries_of old) later left said) (later_is other)
+          (copy_leaves dir old kept at within one is plan.writes planned.writes first layout sets boot copy valid files beside name bytes files_are beside_is name_is bytes_are spoken left said either)
 
-      module _ (new : Kept) (by : IsBootedBy plan.boot one new) where
-        keeps_new : KeepsFiles after dir new
-        keeps_new =
-            let k = kept_framed one in_list keeps_one in
-            subst (KeepsFiles after dir) (sym by.is)
-            (record { release = k.release; boot = stand_new dir one.name plan.boot.slot plan.boot.set plan.files.items planned.files first })
-
+      module _ (new : Kept) (by : IsBootedBy plan.writes.boot one new) where
         pub layout_booted : (now : Files) → now ≡ replaced beside name bytes (written files first) → IsLayout now dir (entries_of (set old at new))
-        layout_booted now now_is = subst (λ (now : Files). IsLayout now dir (entries_of (set old at new))) (sym (now_is ∙ after_is)) (subst (IsLayout after dir) (sym (entries_set new by)) commit_is.after)
+        layout_booted = layout_copied dir old kept at within one is plan.writes planned.writes first layout sets boot copy valid files beside name bytes files_are beside_is name_is bytes_are new by
 
         pub sets_booted : (now : Files) → now ≡ replaced beside name bytes (written files first) → AreSetsOfAll now dir (entries_of (set old at new)) (all_sets_of (set old at new))
-        sets_booted now now_is = subst (λ (now : Files). AreSetsOfAll now dir (entries_of (set old at new)) (all_sets_of (set old at new))) (sym (now_is ∙ after_is))
-            (all_kept after dir (set old at new) (All-set (KeepsFiles after dir) old at new keeps_new keeps_after))
+        sets_booted = sets_copied dir old kept at within one is plan.writes planned.writes first layout sets boot copy valid files beside name bytes files_are beside_is name_is bytes_are new by
 
 -- ---- before anything is written
 

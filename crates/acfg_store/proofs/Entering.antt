@@ -1,5 +1,5 @@
 -- Containers in order with one of them changed, or with one more: they are lawfully listed and valid, and what state they make.
-use Rattle.std.proofs.Common.{◌≡◌, ℕ, zero, suc, ◌+◌, ◌<◌, List, [], ◌∷◌, map, get_or, set, length, Some, None, option_map, Equal, refl, sym, ap, ◌∙◌, subst, arith}
+use Rattle.std.proofs.Common.{◌≡◌, ℕ, zero, suc, ◌<◌, List, [], ◌∷◌, map, get_or, set, length, Some, None, option_map, Equal, refl, sym, ap, ◌∙◌, subst, arith}
 use Rattle.std.specs.Prelude.{All, Contains}
 use Rattle.std.specs.List as lists
 use Rattle.std.specs.FinMap.{get, insert, len}
@@ -9,9 +9,9 @@ use Rattle.std.proofs.lemmas.List.Edits.{get_or-insert_at, length-insert}
 use Rattle.std.proofs.lemmas.List.Elements.{All-cons, All-head, All-map, All-set, All-tail}
 use Rattle.std.proofs.lemmas.Simd.{map-map}
 use Rattle.acfg_base.specs.Names.{IsContainer}
-use Rattle.acfg_base.specs.Places.{AreInOrder, StandsAt, WouldStandAt, row_at}
+use Rattle.acfg_base.specs.Places.{AreInOrder, StandsAt, WouldStandAt}
 use Rattle.acfg_base.proofs.Rows.{AreInOrder-insert, AreInOrder-same_keys, AreInOrder-set, get-map_of, len-map_of, map_of-insert, map_of-set, row_at-gap, row_at-member, row_at-stands}
-use Rattle.acfg_model.specs.State.{Container, IsValidContainer, State, most_containers, name_cmp}
+use Rattle.acfg_model.specs.State.{IsValidContainer, most_containers, name_cmp}
 use Rattle.acfg_model.proofs.Kept.{name_exact, name_total}
 use Rattle.acfg_store.specs.Keys.{recorded_name}
 use Rattle.acfg_store.specs.Records.{AreRecords, IsRecorded}

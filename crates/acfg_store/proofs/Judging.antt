@@ -49,7 +49,7 @@ same_fault bad worse goes OutOfMemory told = tt
 -- what is found where more is given
 pub given_more : (row : Recorded) (Given More : Files → List ℕ → Type 0) → ((files : Files) (dir : List ℕ) → More files dir → Given files dir) → (found : Result Kept (Fault Part))
     → Judges (IsMadeWhere row Given) (IsFaultWhere row Given) found → Judges (IsMadeWhere row More) (IsFaultWhere row More) found
-given_more row Given More less (Ok kept) told = record { listed = told.listed; valid = told.valid; indexed = told.indexed; holds = λ files dir more. told.holds files dir (less files dir more); keeps = λ files dir more. told.keeps files dir (less files dir more) }
+given_more row Given More less (Ok kept) told = record { listed = told.listed; valid = told.valid; indexed = told.indexed; copied = told.copied; holds = λ files dir more. told.holds files dir (less files dir more); keeps = λ files dir more. told.keeps files dir (less files dir more) }
 given_more row Given More less (Err (At part)) told = λ files dir more. told files dir (less files dir more)
 given_more row Given More less (Err OutOfMemory) told = tt
 

@@ -26,7 +26,7 @@ use Rattle.acfg_store.specs.declared.records.Recorded.{Recorded}
 use Rattle.acfg_store.specs.Copies.{IsCopyOf}
 use Rattle.acfg_store.specs.Damage.{release_name}
 use Rattle.acfg_store.specs.Gathered.{AreOverridesRead, IsBootRead}
-use Rattle.acfg_store.specs.Kept.{AreIndexesOf, AreRowsOf, IsMadeWhere, RowsStand}
+use Rattle.acfg_store.specs.Kept.{AreIndexesOf, AreRowsOf, HasCopy, IsMadeWhere, RowsStand}
 use Rattle.acfg_store.specs.Placed.{IsListOver, boot_row, state_row}
 use Rattle.acfg_store.specs.Sets.{AreSetsOf, IsBootSet, Sets}
 use Rattle.acfg_store.specs.Stands.{AreFiles, Booted as IsBooted, Entry, Holds, HoldsOverrides, HoldsRelease, boot_notes, boot_release}
@@ -176,12 +176,13 @@ pub kept_made : (row : Recorded) (set : four.Files) (rows : List FlagState) (rea
     → ((files : Files) (dir : List ℕ) → IsBootRead files dir row read → IsBooted files dir row.name boot_slot boot)
     → ((files : Files) (dir : List ℕ) → IsBootRead files dir row read → IsBootSet files dir row.name boot_slot boot_set)
     → kept.name ≡ row.name → kept.release_slot ≡ row.release → kept.override_slot ≡ row.overrides → option_map (λ b. b.slot) kept.boot ≡ boot_slot
-    → kept.container ≡ container_in row.digest rows boot → kept.release ≡ set → option_map (λ b. b.set) kept.boot ≡ boot_set → AreIndexesOf set (release_in rows) kept.indexes.items kept.count
+    → kept.container ≡ container_in row.digest rows boot → kept.release ≡ set → option_map (λ b. b.set) kept.boot ≡ boot_set → AreIndexesOf set (release_in rows) kept.indexes.items kept.count → HasCopy boot_set boot
     → IsMadeWhere row (RowsStand row set rows read) kept
-kept_made row set rows read kept boot_slot boot boot_set digest boot_valid held of booted stands n r o b c s t indexes = record {
+kept_made row set rows read kept boot_slot boot boot_set digest boot_valid held of booted stands n r o b c s t indexes copied = record {
   listed = λ i. record { name = n i; release = r i; overrides = o i; digest = (c i).digest };
   valid = subst IsValidContainer (sym c) (rows_valid row set held rows of digest boot boot_valid);
   indexed = subst (λ (both : four.Files × ReleaseMap). AreIndexesOf both.0 both.1 kept.indexes.items kept.count) (λ i. (sym s i, (sym c i).release)) indexes;
+  copied = subst (λ (both : Option four.Files × Container). HasCopy both.0 both.1.boot) (λ i. (sym t i, sym c i)) copied;
   holds = λ files dir given.
       subst (Holds files dir) (λ i. record { name = sym n i; release_slot = sym r i; override_slot = sym o i; boot_slot = sym b i; container = sym c i })
       (rows_held row set given.held rows given.of files dir given.stand given.overrides boot_slot boot (booted files dir given.booted));

@@ -1,16 +1,15 @@
 -- A container that is kept takes another release: what state the containers make then, and that its new slots were free.
-use Rattle.std.proofs.Common.{◌≡◌, ℕ, ◌<◌, true, false, List, map, get_or, set, length, Some, bytes_eq, refl, sym, ap, ◌∙◌, subst, arith}
+use Rattle.std.proofs.Common.{◌≡◌, ℕ, ◌<◌, true, false, List, map, get_or, set, Some, bytes_eq, refl, sym, ap, ◌∙◌, subst, arith}
 use Rattle.std.specs.Prelude.{All, Contains}
 use Rattle.std.specs.FinMap.{get, insert, len}
 use Rattle.std.proofs.lemmas.List.{get_or-map, get_or-set_same, get_or_default, length-map, length-set, map-set}
-use Rattle.std.proofs.lemmas.List.Elements.{All-contains, All-set}
+use Rattle.std.proofs.lemmas.List.Elements.{All-contains, All-get_or, All-set}
 use Rattle.acfg_base.specs.Names.{IsContainer}
 use Rattle.acfg_base.specs.Places.{StandsAt}
 use Rattle.acfg_base.specs.Release.{ReleaseMap}
 use Rattle.acfg_device.specs.Panel.{Files}
-use Rattle.acfg_model.specs.declared.requests.Reply.{Reply}
 use Rattle.acfg_model.specs.declared.requests.Reply.TheVariants.{Unchanged, Updated}
-use Rattle.acfg_model.specs.State.{Container, IsValidContainer, State, name_cmp}
+use Rattle.acfg_model.specs.State.{State, name_cmp}
 use Rattle.acfg_model.specs.Step.{with_release}
 use Rattle.acfg_model.proofs.Kept.{name_exact, pair_of, release_step-same, release_step-with_release}
 use Rattle.acfg_store.specs.declared.containers.Kept.{Kept}
@@ -20,7 +19,7 @@ use Rattle.acfg_store.specs.declared.names.Part.TheVariants.{Records, NewRecords
 use Rattle.acfg_store.specs.declared.names.Slot.{Slot}
 use Rattle.acfg_store.specs.declared.names.Slot.TheVariants.{Zero, One}
 use Rattle.acfg_store.specs.Applied.{IsOpen}
-use Rattle.acfg_store.specs.Kept.{IsIndexed, entry_of, kept_name, sets_of}
+use Rattle.acfg_store.specs.Kept.{HasCopy, IsCopied, IsIndexed, entry_of, kept_name, sets_of}
 use Rattle.acfg_store.specs.Names.{path}
 use Rattle.acfg_store.specs.Opening.{AreKept, KeepsFiles, entries_of}
 use Rattle.acfg_store.specs.Records.{AreRecords}
@@ -84,11 +83,16 @@ module _ (kept : List Kept) (are : AreKept kept) (name : List ℕ) (at : ℕ) (s
       entries_set : entries_of (set kept at one) ≡ set (entries_of kept) at (entry_of one)
       entries_set = map-set entry_of kept at one
 
+      one_copied : IsCopied one
+      one_copied = subst (λ (both : Entry × Sets). HasCopy both.1.boot both.0.container.boot) (λ i. (sym taken.entry i, sym taken.sets i))
+          (subst IsCopied (sym was_is) (All-get_or IsCopied kept at was stands.within are.copied))
+
       pub known_kept : AreKept (set kept at one)
       known_kept = record {
         listed = subst (λ (es : List Entry). AreRecords (map recorded es)) (sym entries_set) (set_listed (entries_of kept) are.listed are.valid name at entry_stands (entry_of one) same taken.valid);
         valid = subst (All Valid) (sym entries_set) (set_valid (entries_of kept) are.listed are.valid name at entry_stands (entry_of one) same taken.valid);
         indexed = All-set IsIndexed kept at one (indexed one taken.release) are.indexed;
+        copied = All-set IsCopied kept at one one_copied are.copied;
       }
 
       pub lawful_of : IsContainer (kept_name one)

@@ -3,7 +3,10 @@ pub mod AllBooted
 pub mod Apart
 pub mod Blaming
 pub mod BootCommitted
+pub mod ChangedNow
 pub mod Changing
+pub mod CopyCommitted
+pub mod CopyRenewed
 pub mod Damaging
 pub mod Entering
 pub mod Faulting
@@ -32,7 +35,9 @@ pub mod Picking
 pub mod Placing
 pub mod Reading
 pub mod Rebooted
+pub mod RenewalCommitted
 pub mod Renewed
+pub mod Requested
 pub mod Rowed
 pub mod SetListed
 pub mod Showing

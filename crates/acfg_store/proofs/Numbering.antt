@@ -35,7 +35,7 @@ module _ (parts : SetParts) (flags : List Placed) (are : AreFlagsOf parts flags)
 
   module _ (values infos : OpenList) (locals : List LocalOverride) where
     -- the release of the rows has the flags, in order
-    one_release : release_in (map (state_row values infos locals) flags) ≡ release_of (map entry_at_row flags)
+    pub one_release : release_in (map (state_row values infos locals) flags) ≡ release_of (map entry_at_row flags)
     one_release =
         map_of-map key_total row_key (state_row values infos locals) (λ (row : FlagState). facts_of row.entry) flags
         ∙ sym (map_of-map key_total key_of entry_at_row facts_of flags)

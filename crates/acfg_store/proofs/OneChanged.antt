@@ -20,7 +20,7 @@ use Rattle.acfg_model.proofs.Kept.{name_exact, name_total}
 use Rattle.acfg_store.specs.declared.containers.Kept.{Kept}
 use Rattle.acfg_store.specs.declared.records.Recorded.{Recorded}
 use Rattle.acfg_store.specs.Keys.{recorded_name}
-use Rattle.acfg_store.specs.Kept.{AreIndexesOf, IsIndexed, entry_of, kept_name, sets_of}
+use Rattle.acfg_store.specs.Kept.{AreIndexesOf, HasCopy, IsCopied, IsIndexed, entry_of, kept_name, sets_of}
 use Rattle.acfg_store.specs.Opening.{AreKept, all_sets_of, entries_of}
 use Rattle.acfg_store.specs.Planned.{IsChangedAt, IsRefusedFor}
 use Rattle.acfg_store.specs.Records.{AreRecords, IsRecorded}
@@ -165,6 +165,11 @@ module _ (ks : List Kept) (are : AreKept ks) (name : List ℕ) (change : Change)
           subst IsIndexed (sym turned)
           (subst (λ (release : ReleaseMap). AreIndexesOf was.release release was.indexes.items was.count) (sym (same_release was.container one.container change made)) before)
 
+      one_copied : IsCopied one
+      one_copied =
+          let before : IsCopied was = subst IsCopied (sym was_is) (All-get_or IsCopied ks at was stands.within are.copied) in
+          subst IsCopied (sym turned) (subst (HasCopy (sets_of was).boot) (sym (same_boot was.container one.container change made)) before)
+
       sets_set : all_sets_of (set ks at one) ≡ all_sets_of ks
       sets_set =
           map-set sets_of ks at one ∙ ap (set (all_sets_of ks) at) (ap sets_of turned ∙ ap sets_of was_is ∙ sym (get_or-map sets_of ks at was (sets_of one) stands.within))
@@ -185,6 +190,7 @@ module _ (ks : List Kept) (are : AreKept ks) (name : List ℕ) (change : Change)
           listed = subst AreRecords (sym rows_set) listed;
           valid = subst (All (λ (e : Entry). IsValidContainer e.container)) (sym entries_set) (All-set (λ (e : Entry). IsValidContainer e.container) (entries_of ks) at (entry_of one) valid are.valid);
           indexed = All-set IsIndexed ks at one one_indexed are.indexed;
+          copied = All-set IsCopied ks at one one_copied are.copied;
         });
         sets = ap all_sets_of is ∙ sets_set;
         step = step_at (Ok one.container) made ∙ ap (λ (s : State). pair_of s Fine) (sym state_set) ∙ ap (λ (ks : List Kept). pair_of (state_of (entries_of ks)) Fine) (sym is);

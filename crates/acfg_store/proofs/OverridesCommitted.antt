@@ -35,7 +35,7 @@ use Rattle.acfg_store.specs.declared.names.Part.TheVariants.{Boot, NewRecords, O
 use Rattle.acfg_store.specs.declared.names.Slot.{Slot}
 use Rattle.acfg_store.specs.declared.names.Slot.TheVariants.{Zero, One}
 use Rattle.acfg_store.specs.declared.planning.Plan.{Plan}
-use Rattle.acfg_store.specs.Commits.{ChangesOne, IsCommit, IsLayout, LeavesState}
+use Rattle.acfg_store.specs.Commits.{ChangesOne, IsCommit, IsLayout, LeavesEither, LeavesState}
 use Rattle.acfg_store.specs.Kept.{entry_of, sets_of}
 use Rattle.acfg_store.specs.Names.{IsOfDirectory, path}
 use Rattle.acfg_store.specs.Opening.{AreKept, KeepsFiles, all_sets_of, entries_of}
@@ -86,7 +86,7 @@ lawful_names ks are k d within =
     (subst IsRecorded is (are.listed.each k (recorded (entry_of d)) (omega (arith, inner, outer, within)))).name
 
 -- what a cut leaves of a commit is between the two states
-new_between : (a b : State) → IsBetween a b b
+pub new_between : (a b : State) → IsBetween a b b
 new_between a b = inr (λ name. record { same = refl; boot = inr refl })
 
 pub either_between : (first : Files) (spoken dir : List ℕ) (a b new : State) (files : Files) (said : List ℕ) → new ≡ b → LeavesState first spoken dir (λ state. (state ≡ a) ⊎ (state ≡ b)) files said
@@ -398,12 +398,17 @@ module _ (dir : List ℕ) (old new : List Kept) (name : List ℕ) (change : Chan
         pub sets_of_all : (now : Files) → now ≡ replaced second first_name bytes (written files first) → AreSetsOfAll now dir (entries_of new) (all_sets_of new)
         sets_of_all now is = subst (λ (now : Files). AreSetsOfAll now dir (entries_of new) (all_sets_of new)) (sym (is ∙ after_is)) sets_after
 
+        pub cut_either : (spoken : List ℕ) (left : Files) (said : List ℕ)
+            → IsEither first spoken (λ other. IsNameAmong files other ⊎ (other ≡ second)) (replaced second first_name bytes (written files first)) left said
+            → LeavesEither first spoken dir (entries_of old) (entries_of new) left said
+        cut_either spoken left said either =
+            commit_leaves dir (entries_of old) (entries_of new) spare first after spoken left said committed
+            (subst (λ (t : List NewFile × (List ℕ × Files)). IsEither first spoken (λ (other : List ℕ). IsNameAmong t.0 other ⊎ (other ≡ t.1.0)) t.1.1 left said)
+            (λ i. (files_are i, (second_is i, after_is i))) either)
+
         pub cut_leaves : (spoken : List ℕ) (left : Files) (said : List ℕ)
             → IsEither first spoken (λ other. IsNameAmong files other ⊎ (other ≡ second)) (replaced second first_name bytes (written files first)) left said
             → LeavesState first spoken dir (IsBetween (state_of (entries_of old)) (change_step false (state_of (entries_of old)) name change).0) left said
         cut_leaves spoken left said either =
             either_between first spoken dir (state_of (entries_of old)) (state_of (entries_of new)) (change_step false (state_of (entries_of old)) name change).0 left said
-            (ap (λ (both : State × Reply). both.0) changed.step)
-            (commit_leaves dir (entries_of old) (entries_of new) spare first after spoken left said committed
-            (subst (λ (t : List NewFile × (List ℕ × Files)). IsEither first spoken (λ (other : List ℕ). IsNameAmong t.0 other ⊎ (other ≡ t.1.0)) t.1.1 left said)
-            (λ i. (files_are i, (second_is i, after_is i))) either))
+            (ap (λ (both : State × Reply). both.0) changed.step) (cut_either spoken left said either)

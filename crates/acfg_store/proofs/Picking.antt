@@ -42,7 +42,7 @@ use Rattle.acfg_views.specs.Layout.{Flag}
 abbrev bits : Bool → Bool → Bool → ℕ
 bits writable server local = 2 * bit writable + (bit server + 4 * bit local)
 
-reads_writable : (a b c : Bool) → has_read_write (bits a b c) ≡ a
+pub reads_writable : (a b c : Bool) → has_read_write (bits a b c) ≡ a
 reads_writable true true true = refl
 reads_writable true true false = refl
 reads_writable true false true = refl
@@ -52,7 +52,7 @@ reads_writable false true false = refl
 reads_writable false false true = refl
 reads_writable false false false = refl
 
-reads_server : (a b c : Bool) → has_server (bits a b c) ≡ b
+pub reads_server : (a b c : Bool) → has_server (bits a b c) ≡ b
 reads_server true true true = refl
 reads_server true true false = refl
 reads_server true false true = refl
@@ -62,7 +62,7 @@ reads_server false true false = refl
 reads_server false false true = refl
 reads_server false false false = refl
 
-reads_local : (a b c : Bool) → has_local (bits a b c) ≡ c
+pub reads_local : (a b c : Bool) → has_local (bits a b c) ≡ c
 reads_local true true true = refl
 reads_local true true false = refl
 reads_local true false true = refl
@@ -72,7 +72,7 @@ reads_local false true false = refl
 reads_local false false true = refl
 reads_local false false false = refl
 
-lawful_bits : (a b c : Bool) → (IsTrue (b || c) → IsTrue a) → IsInfo purpose.Copy (bits a b c)
+pub lawful_bits : (a b c : Bool) → (IsTrue (b || c) → IsTrue a) → IsInfo purpose.Copy (bits a b c)
 lawful_bits true true true may = inr (inr (inr (inr refl)))
 lawful_bits true true false may = inr (inr (inl refl))
 lawful_bits true false true may = inr (inr (inr (inl refl)))
@@ -87,11 +87,11 @@ lawful_bits false false true may = absurd (false_is_true (may refl))
     false_is_true e = cc
 lawful_bits false false false may = inl refl
 
-one_at_most : (b : Bool) → bit b ≤ 1
+pub one_at_most : (b : Bool) → bit b ≤ 1
 one_at_most true = omega arith
 one_at_most false = omega arith
 
-reads_value : (b : Bool) → eqb (bit b) 1 ≡ b
+pub reads_value : (b : Bool) → eqb (bit b) 1 ≡ b
 reads_value true = refl
 reads_value false = refl
 
@@ -235,7 +235,7 @@ module _ (set : four.Files) (parts : SetParts) (rows : List FlagState) (indexes 
 
 -- ---- a container's rows
 
-same_kind : (kind : Kind) → model.is_read_write kind ≡ is_read_write kind
+pub same_kind : (kind : Kind) → model.is_read_write kind ≡ is_read_write kind
 same_kind ReadWrite = refl
 same_kind ReadOnly = refl
 same_kind Fixed = refl

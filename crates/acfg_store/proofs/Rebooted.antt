@@ -1,4 +1,5 @@
--- What a boot of one container leaves: the other containers as they were, and that one with its boot copy anew.
+-- What the writing of one container's boot copy leaves: the other containers as they were, and that one with another
+-- boot copy.
 use Rattle.std.proofs.Common.{◌≡◌, ◌⊎◌, inl, inr, ℕ, zero, suc, ◌<◌, Bool, true, false, List, [], ◌∷◌, length, get_or, set, map, Option, Some, None, option_map, string_bytes, refl, sym, ap, subst, ◌∙◌, arith}
 use Rattle.std.specs.Map.{update}
 use Rattle.std.specs.Str.{bytes_eq}
@@ -20,27 +21,25 @@ use Rattle.acfg_device.proofs.Naming.{update_apart, update_here}
 use Rattle.acfg_images.specs.declared.fault.FileType.{FileType}
 use Rattle.acfg_images.specs.declared.fault.FileType.TheVariants as image
 use Rattle.acfg_images.specs.Files as four
-use Rattle.acfg_model.specs.State.{IsValid, name_cmp}
-use Rattle.acfg_model.specs.Step.{boot_map, booted}
+use Rattle.acfg_model.specs.State.{BootMap, IsValid, IsValidContainer, name_cmp}
 use Rattle.acfg_model.proofs.Kept.{IsValid-replaced, name_exact, name_total}
-use Rattle.acfg_model.proofs.Valid.{IsValidContainer-booted}
 use Rattle.acfg_store.specs.declared.names.OverrideFile.TheVariants as override
 use Rattle.acfg_store.specs.declared.names.Part.{Part}
 use Rattle.acfg_store.specs.declared.names.Part.TheVariants.{Records, Release, Override, Pointer, NewPointer, Boot}
 use Rattle.acfg_store.specs.declared.names.Slot.{Slot}
 use Rattle.acfg_store.specs.declared.names.Slot.TheVariants.{Zero, One}
-use Rattle.acfg_store.specs.BootPlans.{AreBootFiles, booted_entry, spare_slot}
+use Rattle.acfg_store.specs.BootPlans.{AreBootFiles, spare_slot, with_copy}
 use Rattle.acfg_store.specs.declared.records.Recorded.{Recorded}
 use Rattle.acfg_store.specs.Commits.{IsCommit, IsLayout}
 use Rattle.acfg_store.specs.Names.{IsOfDirectory, path}
-use Rattle.acfg_store.specs.Picked.{IsCopyFor}
 use Rattle.acfg_store.specs.Records.{AreRecords, pointer_bytes, records_bytes}
+use Rattle.acfg_store.specs.Renewing.{IsCopyWith}
 use Rattle.acfg_store.specs.Stands.{AreFiles, AreListed, Entry, Holds, HoldsBoot, IsUsed, entry_name, recorded, state_of}
 use Rattle.acfg_store.proofs.Apart.{path_container, path_part}
 use Rattle.acfg_store.proofs.Lying.{holds_frame, set_frame}
 use Rattle.acfg_store.proofs.Unused.{entries_order, not_used, one_entry}
 
--- a slot that a boot writes isn't named
+-- a slot that is written isn't named
 spare_apart : (slot : Option Slot) → IsSomeAnd slot (λ named. spare_slot slot ≡ named) → ⊥
 spare_apart None named = absurd named
 spare_apart (Some Zero) named = cc
@@ -121,7 +120,7 @@ module _ (dir : List ℕ) (name : List ℕ) (slot : Slot) (made : four.Files) (f
       replaced_others (path dir name NewPointer) (path dir name Pointer) (pointer_bytes slot) (written files first) other (λ e. apart (inr e))
       ∙ written_others files first other (λ e. apart (inl e))
 
-  -- a part that a boot doesn't write
+  -- a part that isn't written
   abbrev IsSpare : Part → Type 0
   IsSpare part = ((file : FileType) → part ≡ Boot slot file → ⊥) × (part ≡ NewPointer → ⊥) × (part ≡ Pointer → ⊥)
 
@@ -156,9 +155,9 @@ module _ (dir : List ℕ) (name : List ℕ) (slot : Slot) (made : four.Files) (f
   pointer_new : new (path dir name Pointer) ≡ Some (pointer_bytes slot)
   pointer_new = replaced_here (path dir name NewPointer) (path dir name Pointer) (pointer_bytes slot) (written files first)
 
-  -- the container is held as a boot leaves it
-  pub holds_booted : (entry : Entry) → entry.name ≡ name → slot ≡ spare_slot entry.boot_slot → Holds first dir entry → IsCopyFor made name entry.container → Holds new dir (booted_entry entry)
-  holds_booted entry named spare holds copy =
+  -- the container is held with the boot copy
+  pub holds_booted : (entry : Entry) (boot : BootMap) → entry.name ≡ name → slot ≡ spare_slot entry.boot_slot → Holds first dir entry → IsCopyWith made name boot → Holds new dir (with_copy entry boot)
+  holds_booted entry boot named spare holds copy =
       let release = holds.release in
       let overrides = holds.overrides in
       record {
@@ -181,22 +180,25 @@ module _ (dir : List ℕ) (name : List ℕ) (slot : Slot) (made : four.Files) (f
           infos_are = overrides.infos_are;
           locals_are = overrides.locals_are;
         };
-        boot = subst (λ (s : Slot). HoldsBoot new dir entry.name s (boot_map entry.container)) spare
-            (subst (λ (n : List ℕ). HoldsBoot new dir n slot (boot_map entry.container)) (sym named)
+        boot = subst (λ (s : Slot). HoldsBoot new dir entry.name s boot) spare
+            (subst (λ (n : List ℕ). HoldsBoot new dir n slot boot) (sym named)
             (record { set = made; pointer = pointer_new; stand = stand_new; is_set = copy }));
       }
 
 -- ---- the directory
 
-pub recorded_set : (entries : List Entry) (at : ℕ) (one : Entry) → at < length entries → one ≡ get_or entries at one → map recorded (set entries at (booted_entry one)) ≡ map recorded entries
-recorded_set [] at one within is = absurd (omega arith)
-recorded_set (e ∷ es) zero one within is = ap (λ (r : Recorded). r ∷ map recorded es) (ap recorded is)
-recorded_set (e ∷ es) (suc at) one within is = ap (λ (rest : List Recorded). recorded e ∷ rest) (recorded_set es at one (omega arith) is)
+pub recorded_set : (entries : List Entry) (at : ℕ) (one : Entry) (boot : BootMap) → at < length entries → one ≡ get_or entries at one → map recorded (set entries at (with_copy one boot)) ≡ map recorded entries
+recorded_set [] at one boot within is = absurd (omega arith)
+recorded_set (e ∷ es) zero one boot within is = ap (λ (r : Recorded). r ∷ map recorded es) (ap recorded is)
+recorded_set (e ∷ es) (suc at) one boot within is = ap (λ (rest : List Recorded). recorded e ∷ rest) (recorded_set es at one boot (omega arith) is)
 
 module _ (dir : List ℕ) (entries : List Entry) (first : Files) (layout : IsLayout first dir entries) (at : ℕ) (one : Entry) (within : at < length entries) (is : one ≡ get_or entries at one)
-    (slot : Slot) (made : four.Files) (files : List NewFile) (are : AreBootFiles dir one.name slot made files) (spare : slot ≡ spare_slot one.boot_slot) (copy : IsCopyFor made one.name one.container) where
+    (slot : Slot) (made : four.Files) (files : List NewFile) (are : AreBootFiles dir one.name slot made files) (spare : slot ≡ spare_slot one.boot_slot) (boot : BootMap) (copy : IsCopyWith made one.name boot) (valid : IsValidContainer (record one.container { boot = Some boot })) where
+  abbrev one_later : Entry
+  one_later = with_copy one boot
+
   abbrev later : List Entry
-  later = set entries at (booted_entry one)
+  later = set entries at one_later
 
   abbrev after : Files
   after = replaced (path dir one.name NewPointer) (path dir one.name Pointer) (pointer_bytes slot) (written files first)
@@ -211,17 +213,17 @@ module _ (dir : List ℕ) (entries : List Entry) (first : Files) (layout : IsLay
   there = get-map_of name_total entry_name (λ (e : Entry). e.container) entries one.name ∙ ap (option_map (λ (e : Entry). e.container)) (row_at-member name_total entry_name entries order one.name one in_list (tied_itself name_total one.name))
 
   same_list : map recorded later ≡ map recorded entries
-  same_list = recorded_set entries at one within is
+  same_list = recorded_set entries at one boot within is
 
   lawful_later : AreRecords (map recorded later)
   lawful_later = subst AreRecords (sym same_list) layout.lies.lawful
 
-  at_place : (d : Entry) → get_or later at d ≡ booted_entry one
-  at_place d = get_or-set_same entries at (booted_entry one) d within
+  at_place : (d : Entry) → get_or later at d ≡ one_later
+  at_place d = get_or-set_same entries at one_later d within
 
-  state_later : state_of later ≡ insert (state_of entries) one.name (booted one.container)
-  state_later = map_of-set name_total entry_name name_exact entries order at (booted_entry one) within
-      (ap entry_name (get_or_default entries at (booted_entry one) one within ∙ sym is)) (λ (e : Entry). e.container)
+  state_later : state_of later ≡ insert (state_of entries) one.name one_later.container
+  state_later = map_of-set name_total entry_name name_exact entries order at one_later within
+      (ap entry_name (get_or_default entries at one_later one within ∙ sym is)) (λ (e : Entry). e.container)
 
   listed_later : AreListed first dir entries → AreListed after dir later
   listed_later (inl e) = inl (part_stays dir one.name slot made files are first [] Records (λ f e. cc, λ e. cc, λ e. cc) ∙ e ∙ ap (λ (rows : List Recorded). Some (records_bytes rows)) (sym same_list))
@@ -234,37 +236,34 @@ module _ (dir : List ℕ) (entries : List Entry) (first : Files) (layout : IsLay
       order_later = entries_order later lawful_later.order
 
       len : length later ≡ length entries
-      len = length-set entries at (booted_entry one)
+      len = length-set entries at one_later
 
       true_not_false : true ≡ false → ⊥
       true_not_false e = cc
 
       go : (other : Entry) → other ≡ get_or later k d → (b : Bool) → bytes_eq other.name one.name ≡ b → Holds after dir other
       go other at_k true same =
-          let one_is : other ≡ booted_entry one = one_entry later order_later other (booted_entry one)
-          (k, inside, get_or_default later k other d inside ∙ sym at_k) (at, omega (arith, len, within), at_place (booted_entry one)) ((bytes_eq-Decides other.name one.name).0 same) in
-          subst (Holds after dir) (sym one_is) (holds_booted dir one.name slot made files are first one refl spare (All-contains (Holds first dir) entries one layout.lies.each in_list) copy)
+          let one_is : other ≡ one_later = one_entry later order_later other one_later
+          (k, inside, get_or_default later k other d inside ∙ sym at_k) (at, omega (arith, len, within), at_place one_later) ((bytes_eq-Decides other.name one.name).0 same) in
+          subst (Holds after dir) (sym one_is) (holds_booted dir one.name slot made files are first one boot refl spare (All-contains (Holds first dir) entries one layout.lies.each in_list) copy)
       go other at_k false apart =
           let names : other.name ≡ one.name → ⊥ = λ e. true_not_false (sym ((bytes_eq-Decides other.name one.name).1 e) ∙ apart) in
           let places : k ≡ at → ⊥ = λ e. names (ap entry_name (at_k ∙ ap (λ (n : ℕ). get_or later n d) e ∙ at_place d)) in
-          let same : other ≡ get_or entries k d = at_k ∙ get_or-set_other entries at k (booted_entry one) d places in
+          let same : other ≡ get_or entries k d = at_k ∙ get_or-set_other entries at k one_later d places in
           holds_frame first after dir other (λ part uses. other_stays dir one.name slot made files are first other.name names part)
           (subst (Holds first dir) (sym same) (layout.lies.each k d (omega (arith, len, inside))))
 
   valid_later : IsValid (state_of later)
-  valid_later = subst IsValid (sym state_later) (IsValid-replaced (state_of entries) layout.valid one.name one.container (booted one.container) there (IsValidContainer-booted one.container (layout.valid.each one.name one.container there)))
+  valid_later = subst IsValid (sym state_later) (IsValid-replaced (state_of entries) layout.valid one.name one.container one_later.container there valid)
 
-  pub layout_later : IsLayout (replaced (path dir one.name NewPointer) (path dir one.name Pointer) (pointer_bytes slot) (written files first)) dir (set entries at (booted_entry one))
+  pub layout_later : IsLayout (replaced (path dir one.name NewPointer) (path dir one.name Pointer) (pointer_bytes slot) (written files first)) dir (set entries at (with_copy one boot))
   layout_later = record {
     lies = record { listed = listed_later layout.lies.listed; lawful = lawful_later; each = held };
     valid = valid_later;
   }
 
-  pub state_booted_at : state_of (set entries at (booted_entry one)) ≡ insert (state_of entries) one.name (booted one.container)
-  state_booted_at = state_later
-
   -- it is one commit
-  pub commit_booted : IsCommit dir entries (set entries at (booted_entry one)) (λ other. IsNameAmong files other ⊎ (other ≡ path dir one.name NewPointer)) first
+  pub commit_booted : IsCommit dir entries (set entries at (with_copy one boot)) (λ other. IsNameAmong files other ⊎ (other ≡ path dir one.name NewPointer)) first
       (replaced (path dir one.name NewPointer) (path dir one.name Pointer) (pointer_bytes slot) (written files first))
   commit_booted = record {
     before = layout;

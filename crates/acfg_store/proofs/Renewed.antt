@@ -1,19 +1,17 @@
 -- The containers that a store keeps, with one of them changed or one more, whose slots are written before the list that names them: the new
 -- files are those of the new store, and a cut leaves the old state or the new one.
-use Rattle.std.proofs.Common.{◌≡◌, ◌⊎◌, ℕ, ◌<◌, List, [], map, get_or, length, Some, Option, option_map, inl, inr, refl, sym, ap, ◌∙◌, subst, arith}
+use Rattle.std.proofs.Common.{◌≡◌, ◌⊎◌, ℕ, List, map, get_or, Some, inl, inr, refl, sym, ap, ◌∙◌, subst, arith}
 use Rattle.std.specs.Prelude.{All, Contains}
 use Rattle.std.specs.Cmp.{tied_itself}
 use Rattle.std.proofs.lemmas.List.{get_or-map, get_or_default, length-map}
 use Rattle.std.proofs.lemmas.List.Elements.{All-contains, All-map}
-use Rattle.std.proofs.lemmas.Simd.{map-map}
 use Rattle.acfg_base.specs.Names.{IsContainer}
-use Rattle.acfg_base.specs.Places.{AreInOrder, row_at}
-use Rattle.acfg_base.proofs.Rows.{AreInOrder-same_keys, row_at-member}
+use Rattle.acfg_base.specs.Places.{row_at}
+use Rattle.acfg_base.proofs.Rows.{row_at-member}
 use Rattle.acfg_device.specs.Panel.{Files}
 use Rattle.acfg_device.proofs.Naming.{same_name}
 use Rattle.acfg_commit.specs.declared.several.NewFile.{NewFile}
 use Rattle.acfg_images.specs.declared.purpose.Use.TheVariants as purpose
-use Rattle.acfg_images.specs.Files as four
 use Rattle.acfg_images.specs.Set.{IsSet, notes_in}
 use Rattle.acfg_model.specs.State.{name_cmp}
 use Rattle.acfg_model.proofs.Kept.{name_total, some_inside}
@@ -22,23 +20,19 @@ use Rattle.acfg_store.specs.declared.names.Part.{Part}
 use Rattle.acfg_store.specs.Applied.{IsOpen}
 use Rattle.acfg_store.specs.Commits.{IsCommit, IsLayout}
 use Rattle.acfg_store.specs.Kept.{entry_of, kept_name, sets_of}
-use Rattle.acfg_store.specs.Keys.{recorded_name}
 use Rattle.acfg_store.specs.Names.{path}
 use Rattle.acfg_store.specs.Opening.{AreKept, KeepsFiles, all_sets_of, entries_of}
 use Rattle.acfg_store.specs.Sets.{AreSetsOf, AreSetsOfAll, IsBootSet, Sets}
-use Rattle.acfg_store.specs.Stands.{Booted, Entry, IsUsed, recorded}
+use Rattle.acfg_store.specs.Stands.{Booted, Entry, IsUsed}
 use Rattle.acfg_store.specs.Updated.{AreSlotFiles, IsReleaseOf, IsSlotPart, view_of}
 use Rattle.acfg_store.proofs.Entering.{Lawful, each_lawful}
+use Rattle.acfg_store.proofs.OneChanged.{kept_order}
 use Rattle.acfg_store.proofs.SlotsWritten as slots
 use Rattle.acfg_store.proofs.Stored.{all_kept}
 
 pub contains_map : {X Y : Type 0} (f : X → Y) (xs : List X) (x : X) → Contains xs x → Contains (map f xs) (f x)
 contains_map f xs x at =
     (at.0, omega (arith, at.1, length-map xs f), get_or-map f xs at.0 x (f x) at.1 ∙ ap f at.2)
-
-kept_order : (kept : List Kept) → AreKept kept → AreInOrder name_cmp kept_name kept
-kept_order kept are = sym (AreInOrder-same_keys name_total recorded_name kept_name (map recorded (entries_of kept)) kept
-    (map-map recorded_name recorded (entries_of kept) ∙ map-map (λ (e : Entry). recorded_name (recorded e)) entry_of kept)) ∙ are.listed.order
 
 one_kept : (kept : List Kept) → AreKept kept → (x y : Kept) → Contains kept x → Contains kept y → kept_name x ≡ kept_name y → x ≡ y
 one_kept kept are x y x-in y-in same =

@@ -5,6 +5,7 @@ use Rattle.std.specs.Prelude.{Ok, Err, if◌then◌else◌}
 use Rattle.std.specs.FinMap.{contains_key, from_entries, len, len-empty, len-insert}
 use Rattle.std.proofs.lemmas.Slice.Eq.{bytes_eq-Decides}
 use Rattle.acfg_base.specs.declared.releases.Kind.{Kind}
+use Rattle.acfg_base.specs.Release as base
 use Rattle.acfg_base.specs.Release.{HasLawfulKeys, ReleaseMap, entries_of, key_cmp}
 use Rattle.acfg_base.proofs.Keys.{key_total}
 use Rattle.acfg_images.specs.declared.fault.ImageFault.{ImageFault}
@@ -19,15 +20,16 @@ use Rattle.acfg_model.specs.declared.refusals.Refusal.{Refusal}
 use Rattle.acfg_model.specs.declared.refusals.Refusal.TheVariants.{FilesDisagree}
 use Rattle.acfg_model.specs.declared.requests.Loaded.{Loaded}
 use Rattle.acfg_model.specs.declared.requests.Loaded.TheVariants as loaded
+use Rattle.acfg_model.specs.FlagStates as states
 use Rattle.acfg_store.specs.declared.admitting.Listing.{Listing}
 use Rattle.acfg_store.specs.declared.placed.Placed.{Placed}
 use Rattle.acfg_store.specs.Admitted.{IsChecked, IsListing, IsRefusalOf, incoming_of, refusing}
 use Rattle.acfg_store.specs.Kept.{index_listed}
 use Rattle.acfg_store.specs.Loading.{checked_loads, fault_loads}
-use Rattle.acfg_store.specs.Placed.{AreFlagsOf, index_of, state_row}
+use Rattle.acfg_store.specs.Placed.{AreFlagsOf, entry_at_row, index_of, state_row}
 use Rattle.acfg_store.specs.Updated.{IsIncoming}
 use Rattle.acfg_store.proofs.Holding.{release_same}
-use Rattle.acfg_store.proofs.Numbering.{indexes_listed}
+use Rattle.acfg_store.proofs.Numbering.{indexes_listed, one_release}
 use Rattle.acfg_store.proofs.Placing.{flag_count}
 use Rattle.sha2.specs.Sha256.{sha256}
 
@@ -59,24 +61,27 @@ module _ (set : four.Files) (opened : Opened) (is : IsChecked set opened) where
   counted = flag_count opened (purpose.Release, subst (λ (s : four.Files). checked purpose.Release s ≡ Ok opened) (sym (checked_same purpose.Release set opened is.passes)) is.passes)
 
   -- what is listed of it is a release of its container
-  pub listed_release : (flags : List Placed) → AreFlagsOf (parts_in opened) flags → (lists : Listing) → lists.digest ≡ sha256 (four.joined set) → lists.release ≡ release_of opened → HasLawfulKeys (release_of opened)
+  pub listed_release : (flags : List Placed) → AreFlagsOf (parts_in opened) flags → (lists : Listing) → lists.digest ≡ sha256 (four.joined set) → lists.release ≡ base.release_of (map entry_at_row flags) → HasLawfulKeys (release_of opened)
       → lists.indexes.items ≡ map index_of flags → lists.count ≡ opened.flag_map.count → lists.count < 2 ^ 32 → IsIncoming opened.package_map.container (incoming_of set lists)
-  listed_release flags are lists digest release keys indexes count below = record {
-    parts = parts_in opened;
-    is_set = is.is_set;
-    container_is = refl;
-    release_is = sym release;
-    digest_is = digest;
-    keys = subst HasLawfulKeys (sym release) keys;
-    fits = subst (λ (r : ReleaseMap). len r < 2 ^ 32) (sym release)
-        (let most : len (release_of opened) ≤ length (listing (parts_in opened)) = few (listing (parts_in opened)) in
-        let size : lists.count ≡ length (listing (parts_in opened)) = count ∙ counted in
-        omega (arith, most, size, below));
-    indexes_are = subst (λ (r : ReleaseMap). map (λ (index : ℕ). Some index) lists.indexes.items ≡ map (index_listed (parts_in opened)) (entries_of r))
-        (sym (release_same (parts_in opened) flags are opened.values opened.infos []) ∙ sym release)
-        (indexes_listed (parts_in opened) flags are opened.values opened.infos [] (map (state_row opened.values opened.infos []) flags) refl lists.indexes.items indexes);
-    count_is = count ∙ counted;
-  }
+  listed_release flags are lists digest made keys indexes count below =
+      let rows : release_of opened ≡ states.release_in (map (state_row opened.values opened.infos []) flags) = release_same (parts_in opened) flags are opened.values opened.infos [] in
+      let release : lists.release ≡ release_of opened = made ∙ sym (rows ∙ one_release (parts_in opened) flags are opened.values opened.infos []) in
+      record {
+        parts = parts_in opened;
+        is_set = is.is_set;
+        container_is = refl;
+        release_is = sym release;
+        digest_is = digest;
+        keys = subst HasLawfulKeys (sym release) keys;
+        fits = subst (λ (r : ReleaseMap). len r < 2 ^ 32) (sym release)
+            (let most : len (release_of opened) ≤ length (listing (parts_in opened)) = few (listing (parts_in opened)) in
+            let size : lists.count ≡ length (listing (parts_in opened)) = count ∙ counted in
+            omega (arith, most, size, below));
+        indexes_are = subst (λ (r : ReleaseMap). map (λ (index : ℕ). Some index) lists.indexes.items ≡ map (index_listed (parts_in opened)) (entries_of r))
+            (sym (release_same (parts_in opened) flags are opened.values opened.infos []) ∙ sym release)
+            (indexes_listed (parts_in opened) flags are opened.values opened.infos [] (map (state_row opened.values opened.infos []) flags) refl lists.indexes.items indexes);
+        count_is = count ∙ counted;
+      }
 
   -- and the set loads as that
   pub lists_loaded : (name : List ℕ) → opened.package_map.container ≡ name → (lists : Listing) → IsIncoming opened.package_map.container (incoming_of set lists) → IsListing name set (Ok lists)

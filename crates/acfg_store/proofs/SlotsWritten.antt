@@ -1,12 +1,9 @@
 -- A container's slots that nothing names are written, and then the list that names them: so the containers lie in the directory with this one
 -- changed, or with one more.
-use Rattle.std.proofs.Common.{◌≡◌, ◌⊎◌, ℕ, ◌<◌, List, [], ◌∷◌, map, get_or, length, Option, Some, None, string_bytes, inl, inr, refl, sym, ap, ◌∙◌, subst, arith, ⊎_elim, bytes_eq}
+use Rattle.std.proofs.Common.{◌≡◌, ◌⊎◌, ℕ, List, [], map, Option, Some, None, inl, inr, refl, sym, ap, ◌∙◌, subst, ⊎_elim}
 use Rattle.std.specs.Prelude.{All, Contains, IsSomeAnd}
-use Rattle.std.specs.Map.{update}
-use Rattle.std.proofs.lemmas.List.{get_or_default}
 use Rattle.std.proofs.lemmas.List.Elements.{All-contains}
 use Rattle.acfg_base.specs.Names.{IsContainer}
-use Rattle.acfg_device.specs.Left.{SameBut}
 use Rattle.acfg_device.specs.Panel.{Files}
 use Rattle.acfg_device.proofs.Naming.{same_name}
 use Rattle.acfg_commit.specs.Written.{IsNameAmong, replaced, written}
@@ -16,7 +13,7 @@ use Rattle.acfg_images.specs.declared.fault.FileType.{FileType}
 use Rattle.acfg_images.specs.declared.fault.FileType.TheVariants as image
 use Rattle.acfg_images.specs.declared.purpose.Use.TheVariants as purpose
 use Rattle.acfg_images.specs.Files as four
-use Rattle.acfg_images.specs.Set.{IsSet, Notes, SetParts, listing}
+use Rattle.acfg_images.specs.Set.{IsSet, Notes, SetParts}
 use Rattle.acfg_model.specs.State.{IsValidContainer}
 use Rattle.acfg_store.specs.declared.names.OverrideFile.{OverrideFile}
 use Rattle.acfg_store.specs.declared.names.OverrideFile.TheVariants as override
@@ -25,10 +22,10 @@ use Rattle.acfg_store.specs.declared.names.Part.TheVariants.{Records, NewRecords
 use Rattle.acfg_store.specs.declared.names.Slot.{Slot}
 use Rattle.acfg_store.specs.Commits.{ChangesOne, IsCommit, IsKept, IsLayout}
 use Rattle.acfg_store.specs.Names.{IsContainerOf, IsOfDirectory, path}
-use Rattle.acfg_store.specs.Records.{AreRecords, IsRecorded, records_bytes}
+use Rattle.acfg_store.specs.Records.{AreRecords, records_bytes}
 use Rattle.acfg_store.specs.Sets.{AreSetsOf, IsBootSet, Sets}
-use Rattle.acfg_store.specs.Stands.{AreFiles, AreListed, Booted, Entry, Holds, IsRead, IsUsed, Lies, Uses, entry_name, recorded, state_of}
-use Rattle.acfg_store.specs.Updated.{AreParts, AreSlotFiles, IsSlotPart, named, slot_parts}
+use Rattle.acfg_store.specs.Stands.{AreFiles, Booted, Entry, Holds, IsUsed, Uses, recorded}
+use Rattle.acfg_store.specs.Updated.{AreSlotFiles, IsSlotPart, slot_parts}
 use Rattle.acfg_store.proofs.Apart.{path_container, path_part}
 use Rattle.acfg_store.proofs.Changing.{one_changes}
 use Rattle.acfg_store.proofs.Lying.{booted_frame, set_frame}

@@ -21,7 +21,7 @@ use Rattle.acfg_store.specs.declared.store_fault.StoreFault.{StoreFault}
 use Rattle.acfg_store.specs.declared.store_fault.StoreFault.TheVariants.{Damaged, Device, OutOfMemory}
 use Rattle.acfg_store.specs.Commits.{IsLayout}
 use Rattle.acfg_store.specs.Judged.{Blames}
-use Rattle.acfg_store.specs.Kept.{IsFaultWhere, IsIndexed, entry_of, sets_of}
+use Rattle.acfg_store.specs.Kept.{IsCopied, IsFaultWhere, IsIndexed, entry_of, sets_of}
 use Rattle.acfg_store.specs.Names.{path}
 use Rattle.acfg_store.specs.Opening.{AreKept, AreOfRows, IsPartOfRows, KeepsFiles, TellsOfRow, TellsOfRows, all_sets_of, entries_of}
 use Rattle.acfg_store.specs.Records.{AreRecords, SpellsRecords}
@@ -35,7 +35,7 @@ none_recorded : AreRecords (map recorded [])
 none_recorded = record { bound = omega arith; each = λ k d within. absurd (omega arith); order = refl }
 
 pub none_kept : AreKept []
-none_kept = record { listed = none_recorded; valid = All-nil (λ (e : Entry). IsValidContainer e.container); indexed = All-nil IsIndexed }
+none_kept = record { listed = none_recorded; valid = All-nil (λ (e : Entry). IsValidContainer e.container); indexed = All-nil IsIndexed; copied = All-nil IsCopied }
 
 -- a directory without a list has no containers
 pub none_lie : (files : Files) (dir : List ℕ) → files (path dir [] Records) ≡ None → IsLayout files dir []
@@ -45,7 +45,7 @@ none_lie files dir none = record {
 }
 
 pub rows_kept : (bytes : List ℕ) (rows : List Recorded) (kept : List Kept) → SpellsRecords bytes rows → AreOfRows rows kept → AreKept kept
-rows_kept bytes rows kept spells of = record { listed = subst AreRecords (sym of.listed) spells.lawful; valid = of.valid; indexed = of.indexed }
+rows_kept bytes rows kept spells of = record { listed = subst AreRecords (sym of.listed) spells.lawful; valid = of.valid; indexed = of.indexed; copied = of.copied }
 
 -- what a read that fails tells
 pub read_told : (files : Files) (dir : List ℕ) (fault : ReadFault) (made : StoreFault) → made ≡ fault_of fault → TellsDamage files dir made
@@ -132,13 +132,14 @@ module _ (rows : List Recorded) (kept : List Kept) (i : ℕ) (row : Recorded) (w
     one_of P here = All-cons P (entry_of one) [] here (All-nil P)
 
     -- one container more
-    pub of_more : AreOfRows (take i rows) kept → recorded (entry_of one) ≡ row → IsValidContainer one.container → IsIndexed one → AreOfRows (take (i + 1) rows) items
-    of_more of listed valid indexed = record {
+    pub of_more : AreOfRows (take i rows) kept → recorded (entry_of one) ≡ row → IsValidContainer one.container → IsIndexed one → IsCopied one → AreOfRows (take (i + 1) rows) items
+    of_more of listed valid indexed copied = record {
       listed =
           ap (map recorded) entries_are ∙ map-append recorded (entries_of kept) (entry_of one ∷ []) ∙ ap (λ (t : List Recorded). t ++ recorded (entry_of one) ∷ []) of.listed
           ∙ ap (λ (r : Recorded). take i rows ++ r ∷ []) (listed ∙ is) ∙ sym (take_more rows i row within);
       valid = subst (All Valid) (sym entries_are) (All-append Valid (entries_of kept) (entry_of one ∷ []) of.valid (one_of Valid valid));
       indexed = subst (All IsIndexed) (sym are) (All-append IsIndexed kept (one ∷ []) of.indexed (All-cons IsIndexed one [] indexed (All-nil IsIndexed)));
+      copied = subst (All IsCopied) (sym are) (All-append IsCopied kept (one ∷ []) of.copied (All-cons IsCopied one [] copied (All-nil IsCopied)));
     }
 
     pub held_more : (files : Files) (dir : List ℕ) → All (Holds files dir) (entries_of kept) → Holds files dir (entry_of one) → All (Holds files dir) (entries_of items)

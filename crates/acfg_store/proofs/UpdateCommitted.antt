@@ -1,5 +1,5 @@
 -- The commit of an update: what it leaves after success, and what a cut of it leaves.
-use Rattle.std.proofs.Common.{◌≡◌, ◌⊎◌, ℕ, List, [], Ok, Err, map, inl, inr, refl, sym, ap, ◌∙◌, subst, ⊎_elim}
+use Rattle.std.proofs.Common.{◌≡◌, ◌⊎◌, ℕ, List, [], Ok, Err, map, sym, ◌∙◌, subst, ⊎_elim}
 use Rattle.std.specs.Prelude.{All, Contains}
 use Rattle.acfg_base.specs.Names.{IsContainer}
 use Rattle.acfg_device.specs.Left.{IsEither}

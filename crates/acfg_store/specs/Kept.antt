@@ -1,5 +1,5 @@
 -- Private: what is kept of a container, by the files that were read. No public clause cites it.
-use Rattle.std.specs.Prelude.{◌≡◌, ℕ, List, length, map, Option, Some, option_map}
+use Rattle.std.specs.Prelude.{◌≡◌, ⊤, ℕ, List, length, map, Option, None, Some, option_map}
 use Rattle.acfg_base.specs.declared.releases.Entry.{Entry as FlagEntry}
 use Rattle.acfg_base.specs.Places.{row_at}
 use Rattle.acfg_base.specs.Release.{HasLawfulKeys, ReleaseMap, entries_of, key_cmp, key_of}
@@ -10,7 +10,7 @@ use Rattle.acfg_images.specs.Files as four
 use Rattle.acfg_images.specs.Laws.{release_of}
 use Rattle.acfg_images.specs.Set.{IsSetOf, SetParts, listed_key, listing, release_in}
 use Rattle.acfg_model.specs.declared.containers.FlagState.{FlagState}
-use Rattle.acfg_model.specs.State.{IsValidContainer}
+use Rattle.acfg_model.specs.State.{BootMap, IsValidContainer}
 use Rattle.acfg_store.specs.declared.boots.BootFiles.{BootFiles}
 use Rattle.acfg_store.specs.declared.containers.Kept.{Kept}
 use Rattle.acfg_store.specs.declared.names.OverrideFile.{OverrideFile}
@@ -22,6 +22,7 @@ use Rattle.acfg_store.specs.Gathered.{AreOverridesRead, IsBootRead}
 use Rattle.acfg_store.specs.Judged.{IsMeantSet}
 use Rattle.acfg_store.specs.Over.{AreBytesIn, AreOverrides}
 use Rattle.acfg_store.specs.Placed.{AreFlagsOf}
+use Rattle.acfg_store.specs.Renewing.{IsCopyWith}
 use Rattle.acfg_store.specs.Sets.{AreSetsOf, Sets}
 use Rattle.acfg_store.specs.Stands.{AreFiles, Entry, Holds, recorded}
 
@@ -59,6 +60,20 @@ pub record AreIndexesOf (set : four.Files) (release : ReleaseMap) (indexes : Lis
 abbrev pub IsIndexed : Kept → Type 0
 IsIndexed kept = AreIndexesOf kept.release kept.container.release kept.indexes.items kept.count
 
+-- The files that are kept of a boot copy are a set of the boot copy that the container has, and the name in them counts
+-- for nothing. There are some exactly where there is a boot copy.
+abbrev pub IsCopySet : four.Files → BootMap → Type 0
+IsCopySet set boot = (name : List ℕ) × IsCopyWith set name boot
+
+abbrev pub HasCopy : Option four.Files → Option BootMap → Type 0
+HasCopy None None = ⊤
+HasCopy None (Some boot) = ⊥
+HasCopy (Some set) None = ⊥
+HasCopy (Some set) (Some boot) = IsCopySet set boot
+
+abbrev pub IsCopied : Kept → Type 0
+IsCopied kept = HasCopy (sets_of kept).boot kept.container.boot
+
 module _ (row : Recorded) where
   -- the part is the first of the container at fault
   abbrev pub IsFirstPart : Files → List ℕ → Part → Type 0
@@ -70,6 +85,7 @@ module _ (row : Recorded) where
       pub listed : recorded (entry_of kept) ≡ row
       pub valid : IsValidContainer kept.container
       pub indexed : IsIndexed kept
+      pub copied : IsCopied kept
       pub holds : (files : Files) (dir : List ℕ) → Given files dir → Holds files dir (entry_of kept)
       pub keeps : (files : Files) (dir : List ℕ) → Given files dir → AreSetsOf files dir (entry_of kept) (sets_of kept)
 

@@ -1,6 +1,8 @@
 pub mod Admitted
+pub mod Answered
 pub mod Applied
 pub mod BootPlans
+pub mod ChangedNow
 pub mod Codes
 pub mod Commits
 pub mod Copies
@@ -19,6 +21,8 @@ pub mod Picked
 pub mod Placed
 pub mod Planned
 pub mod Records
+pub mod Renewing
+pub mod Request
 pub mod Sets
 pub mod Stamped
 pub mod Stands

@@ -1,5 +1,5 @@
 -- What an update loads: the four files of a folder, as a release of a container.
-use Rattle.std.specs.Prelude.{ℕ, List, Option, Some, None, option_and_then, option_map, Result, Ok, Err, if◌then◌else◌}
+use Rattle.std.specs.Prelude.{ℕ, List, Option, Some, None, Result, Ok, Err, if◌then◌else◌}
 use Rattle.std.specs.Str.{bytes_eq}
 use Rattle.acfg_device.specs.Panel.{Files}
 use Rattle.acfg_images.specs.declared.fault.FileType.TheVariants.{PackageMap, FlagMap, FlagVal, FlagInfo}

@@ -8,7 +8,7 @@ use Rattle.acfg_store.specs.declared.records.Recorded.{Recorded}
 use Rattle.acfg_store.specs.declared.store_fault.StoreFault.{StoreFault}
 use Rattle.acfg_store.specs.declared.store_fault.StoreFault.TheVariants.{Damaged, Device, OutOfMemory}
 use Rattle.acfg_store.specs.Damage.{IsFirst, IsWhole}
-use Rattle.acfg_store.specs.Kept.{IsFirstPart, IsIndexed, entry_of, sets_of}
+use Rattle.acfg_store.specs.Kept.{IsCopied, IsFirstPart, IsIndexed, entry_of, sets_of}
 use Rattle.acfg_store.specs.Names.{path}
 use Rattle.acfg_store.specs.Records.{AreRecords}
 use Rattle.acfg_store.specs.Sets.{AreSetsOf, Sets}
@@ -47,14 +47,16 @@ all_sets_of kept = map sets_of kept
 abbrev pub KeepsFiles : Files → List ℕ → Kept → Type 0
 KeepsFiles files dir kept = AreSetsOf files dir (entry_of kept) (sets_of kept)
 
--- the containers are those of the list, and each is valid, with the index of each flag
+-- the containers are those of the list, and each is valid, with the index of each flag and the files of its boot copy
 pub record AreOfRows (rows : List Recorded) (kept : List Kept) : Type 0 where
   pub listed : map recorded (entries_of kept) ≡ rows
   pub valid : All (λ entry. IsValidContainer entry.container) (entries_of kept)
   pub indexed : All IsIndexed kept
+  pub copied : All IsCopied kept
 
--- containers that a store keeps: lawfully listed, valid, and with the index of each flag
+-- containers that a store keeps: lawfully listed, valid, and with the index of each flag and the files of the boot copy
 pub record AreKept (kept : List Kept) : Type 0 where
   pub listed : AreRecords (map recorded (entries_of kept))
   pub valid : All (λ entry. IsValidContainer entry.container) (entries_of kept)
   pub indexed : All IsIndexed kept
+  pub copied : All IsCopied kept

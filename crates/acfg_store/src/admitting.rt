@@ -1,16 +1,20 @@
 //! A set that was loaded for an update: the release that its container takes, or why the update is refused.
 
-ghost use Rattle.std.specs.Prelude.{◌≡◌, IfOk, MatchResult};
+ghost use Rattle.std.specs.Prelude.{◌≡◌, IfOk, MatchResult, map};
+ghost use Rattle.acfg_base.specs.Places.{AreInOrder};
+ghost use Rattle.acfg_base.specs.Release.{key_cmp, release_of};
 ghost use Rattle.acfg_images.specs.declared.fault.ImageFault.TheVariants as image;
 ghost use Rattle.acfg_store.specs.Admitted.{IsAdmitted, IsChecked, IsListing, IsRefusalOf, incoming_of};
+ghost use Rattle.acfg_store.specs.Placed.{entry_at_row, placed_key};
 ghost use Rattle.acfg_store.specs.Updated.{IsIncoming};
 
 use crate::installing::Incoming;
-use crate::placed::{flags_in, indexes_of};
+use crate::overrides::entry_of;
+use crate::placed::{Placed, flags_in, indexes_of};
 use acfg_base::{ContainerName, OutOfMemory, Release};
-use acfg_images::{Checked, ImageFault, ImageSet, Use, check, digest, flags_of};
+use acfg_images::{Checked, ImageFault, ImageSet, Use, check, digest};
 use acfg_model::Refusal;
-use std::alloc::Global;
+use std::alloc::{AllocError, Global};
 
 /// What a set lists: its digest, the release that it holds, the global index of each of the release's flags, and how
 /// many flags there are.
@@ -90,13 +94,22 @@ fn list_release(
 {
     let flags = flags_in(alloc, checked)?;
     let indexes = indexes_of(alloc, flags.as_slice())?;
-    let release = flags_of(alloc, checked)?;
+    let release = release_of(alloc, flags)?;
     Ok(Listing {
         digest: digest(set),
         release,
         indexes,
         count: checked.count(),
     })
+}
+
+// The release of a set's flags.
+fn release_of(alloc: Global, flags: Vec<Placed>) -> Result<Release, AllocError>
+    requires { AreInOrder key_cmp placed_key flags.items }
+    ensures { IfOk result (λ release. release ≡ release_of (map entry_at_row flags.items)) }
+{
+    let entries = flags.into_iter().map(|flag| entry_of(flag)).collect(alloc)?;
+    Ok(Release::from_sorted(entries))
 }
 
 // Why an update is refused whose set has a fault.

@@ -32,7 +32,7 @@ pub(crate) fn copy_set(
         → AreFlagsIn set.now parts rows.now indexes.now → HasRows container rows.now
         → IsCopyFor made parts.package_map.container container) }
 {
-    let checked = check_again(alloc, set)?;
+    let checked = check_again(alloc, set, Use::Release)?;
     let picks = pick_bytes(alloc, rows)?;
     let notes = noted_bytes(alloc, rows)?;
     let values = table_of(alloc, count, indexes, picks.as_slice())?;
@@ -40,12 +40,16 @@ pub(crate) fn copy_set(
     restamp(alloc, &checked, values.as_slice(), infos.as_slice())
 }
 
-// The check of a set that is one.
-fn check_again(alloc: Global, set: &ImageSet) -> Result<Checked<'_>, OutOfMemory>
-    requires { (parts : SetParts) × IsSetOf set.now purpose.Release parts }
-    ensures { IfOk result (λ opened. checked purpose.Release set.now ≡ Ok opened) }
+/// The check of a set that is one.
+pub(crate) fn check_again(
+    alloc: Global,
+    set: &ImageSet,
+    purpose: Use,
+) -> Result<Checked<'_>, OutOfMemory>
+    requires { (parts : SetParts) × IsSetOf set.now purpose parts }
+    ensures { IfOk result (λ opened. checked purpose set.now ≡ Ok opened) }
 {
-    match check(alloc, set, Use::Release) {
+    match check(alloc, set, purpose) {
         Ok(checked) => Ok(checked),
         Err(fault) => match fault {
             ImageFault::OutOfMemory => Err(OutOfMemory),
@@ -60,7 +64,8 @@ fn pick_bytes(alloc: Global, rows: &[FlagState]) -> Result<Vec<u8>, AllocError>
     rows.iter().map(|row| pick_byte(row)).collect(alloc)
 }
 
-fn pick_byte(row: &FlagState) -> u8
+/// The byte of a flag's pick.
+pub(crate) fn pick_byte(row: &FlagState) -> u8
     ensures { result ≡ picked.pick_byte row.now }
 {
     bit_byte(row.local.unwrap_or(row.server.unwrap_or(row.entry.value)))

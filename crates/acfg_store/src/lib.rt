@@ -3,7 +3,9 @@
 
 mod accepting;
 mod admitting;
+mod answering;
 mod applying;
+mod applying_now;
 mod booting;
 mod boots;
 mod containers;
@@ -13,6 +15,7 @@ mod fields;
 mod gathering;
 mod installing;
 mod laws;
+mod loading;
 mod locals;
 mod marking;
 mod names;
@@ -23,6 +26,7 @@ mod placed;
 mod planning;
 mod pointer;
 mod records;
+mod renewing;
 mod restarting;
 mod rows;
 mod sets;

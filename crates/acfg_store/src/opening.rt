@@ -3,7 +3,7 @@
 ghost use Rattle.std.specs.Prelude.{◌≡◌, All, Err, IfErr, IfOk, IsTrue};
 ghost use Rattle.acfg_device.specs.Only.{OnlyReads};
 ghost use Rattle.acfg_model.specs.State.{IsDigest, IsValidContainer};
-ghost use Rattle.acfg_store.specs.Kept.{IsIndexed, entry_of};
+ghost use Rattle.acfg_store.specs.Kept.{IsCopied, IsIndexed, entry_of};
 ghost use Rattle.acfg_store.specs.Opening.{AreOfRows, KeepsFiles, TellsOfRow, TellsOfRows, entries_of};
 ghost use Rattle.acfg_store.specs.Stands.{Holds, recorded};
 
@@ -25,6 +25,7 @@ pub(crate) fn open_one<P: Panel>(
     ensures listed { IfOk result (λ kept. recorded (entry_of kept) ≡ row.now) }
     ensures valid { IfOk result (λ kept. IsValidContainer kept.container) }
     ensures indexed { IfOk result IsIndexed }
+    ensures copied { IfOk result IsCopied }
     ensures holds { IsTrue P.tells → IfOk result (λ kept. Holds (P.files panel.old) dir.now (entry_of kept)) }
     ensures keeps { IsTrue P.tells → IfOk result (KeepsFiles (P.files panel.old) dir.now) }
     ensures damaged { IsTrue P.tells → IfErr result (TellsOfRow (P.files panel.old) dir.now row.now) }

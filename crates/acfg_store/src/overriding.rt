@@ -3,6 +3,7 @@
 ghost use Rattle.std.specs.Prelude.{MatchResult};
 ghost use Rattle.acfg_store.specs.Opening.{AreKept};
 ghost use Rattle.acfg_store.specs.Planned.{IsChange, IsChangedAt, IsRefusedFor};
+ghost use Rattle.acfg_store.specs.ChangedNow.{IsChangeNow, IsChangedNow, IsRefusedNow};
 
 use crate::containers::Kept;
 use acfg_model::{Change, ContainerRow, Refusal, place_of};
@@ -30,6 +31,16 @@ impl Kept {
             Err(refusal) => Err(refusal),
         }
     }
+
+    // The same, unless a change that is for now too is refused.
+    fn change_for_now(&mut self, change: &Change<'_>) -> Result<(), Refusal>
+        ensures { IsChangeNow change.now result self.old self.new }
+    {
+        match self.container.refused_now(change) {
+            Some(refusal) => Err(refusal),
+            None => self.change(change),
+        }
+    }
 }
 
 /// Changes the overrides of a container. The answer is where it stands, or why the change is refused.
@@ -46,6 +57,28 @@ pub(crate) fn change_in(
         Ok(at) => {
             let one = &mut containers[at];
             match one.change(change) {
+                Ok(()) => Ok(at),
+                Err(refusal) => Err(refusal),
+            }
+        }
+        Err(_) => Err(Refusal::UnknownContainer),
+    }
+}
+
+/// The same, unless a change that is for now too is refused. The boot copy is as it was.
+pub(crate) fn change_now_in(
+    containers: &mut Vec<Kept>,
+    name: &str,
+    change: &Change<'_>,
+) -> Result<usize, Refusal>
+    requires { AreKept containers.old.items }
+    ensures { MatchResult result (IsChangedNow name.now change.now containers.old.items containers.new.items)
+        (IsRefusedNow name.now change.now containers.old.items containers.new.items) }
+{
+    match place_of(containers, name) {
+        Ok(at) => {
+            let one = &mut containers[at];
+            match one.change_for_now(change) {
                 Ok(()) => Ok(at),
                 Err(refusal) => Err(refusal),
             }

@@ -25,8 +25,8 @@ impl Store {
     ///
     /// # Errors
     ///
-    /// `Device` where the outside failed, and `OutOfMemory` where an allocation was refused; then some containers may be
-    /// booted already, and the files stand for that.
+    /// `Device` where the outside failed, and `OutOfMemory` where an allocation was refused; then some containers may
+    /// be booted already, and the files stand for that.
     pub(crate) fn boot<D: Device>(
         self,
         alloc: Global,
@@ -103,14 +103,14 @@ impl Store {
         let plan = plan_boot(alloc, dir.as_str(), &containers[at])?;
         commit(
             device,
-            plan.files.as_slice(),
-            plan.beside.as_str(),
-            plan.pointer.as_str(),
-            plan.bytes.as_slice(),
+            plan.writes.files.as_slice(),
+            plan.writes.beside.as_str(),
+            plan.writes.pointer.as_str(),
+            plan.writes.bytes.as_slice(),
         )?;
-        let BootPlan { boot, copy, .. } = plan;
+        let BootPlan { writes, copy } = plan;
         let one = &mut containers[at];
-        one.take_boot(boot, copy);
+        one.take_boot(writes.boot, copy);
         Ok(Store { dir, containers })
     }
 }

@@ -7,15 +7,19 @@ use crate::names::{Part, file_name};
 use acfg_base::OutOfMemory;
 use acfg_device::{Failed, ReadFault};
 use std::alloc::{AllocError, AllocFailed, Global};
+use thiserror::Error;
 
-/// Why a store isn't opened.
-#[derive(Debug, Drop)]
+/// Why a store isn't opened, or a request not answered.
+#[derive(Debug, Drop, Error)]
 pub enum StoreFault {
-    /// The directory stands for no state: the name of the first file at fault.
+    /// The directory stands for no state: the name of the first file at fault. Only an opening tells it.
+    #[error("damaged {0}")]
     Damaged(String),
     /// The outside failed.
+    #[error("the outside failed")]
     Device,
     /// Memory was refused.
+    #[error("memory was refused")]
     OutOfMemory,
 }
 

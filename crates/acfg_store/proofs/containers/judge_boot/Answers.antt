@@ -10,7 +10,7 @@ kept-requires c = rows_lawful c.args.row.now c.args.set c.requires.rows.0 c.args
 pub returns-in-Absent : goal.returns-in-Absent
 returns-in-Absent c =
     rw c.in-Absent.is (kept_made c.args.row.now c.args.set c.args.flags.rows.items Absent _ None None None c.requires.digest unbooted c.requires.rows.0 c.requires.rows.1 (λ files dir none. none) (λ files dir none. tt)
-    c.in_ok-name.ensures.cases refl refl refl c.kept.ensures refl refl c.requires.indexes)
+    c.in_ok-name.ensures.cases refl refl refl c.kept.ensures refl refl c.requires.indexes tt)
 
 pub returns-in-Bad : goal.returns-in-Bad
 returns-in-Bad c = rw c.in-Bad.is (pointer_fault c.args.row.now c.args.set c.args.flags.rows.items)

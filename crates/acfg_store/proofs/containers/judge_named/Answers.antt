@@ -27,6 +27,7 @@ returns-in-Ok c =
       stand = stand_as files (boot_name files dir c.args.row.now c.args.slot) c.args.files booted.1 c.in-Ok.found.set c.in-Ok.ensures.0;
       is_set = copy_set c.args.row.now.name c.in-Ok.found.set c.in-Ok.found.copy of;
     }) (λ files dir booted. stand_as files (boot_name files dir c.args.row.now c.args.slot) c.args.files booted.1 c.in-Ok.found.set c.in-Ok.ensures.0) c.requires.name refl refl refl c.kept.ensures refl refl c.requires.indexes
+    (c.args.row.now.name, copy_set c.args.row.now.name c.in-Ok.found.set c.in-Ok.found.copy of)
 
 pub returns-in-Err : goal.returns-in-Err
 returns-in-Err c =

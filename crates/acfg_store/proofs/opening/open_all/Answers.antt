@@ -16,7 +16,7 @@ returns-in-Err-clause-damaged g c told =
 pub loop-row-preserved : goal.loop-row-preserved
 loop-row-preserved g c = record {
   of = of_more c.args.rows.now c.loop-row.kept.items c.loop-row.row-index c.row-item.result c.loop-row-test.true c.row-item.is c.in-Ok.one c.push.new.self.items c.in_ok-push-in-Ok.ensures.items
-      c.loop-row.invariant.of c.in-Ok.ensures.listed c.in-Ok.ensures.valid c.in-Ok.ensures.indexed;
+      c.loop-row.invariant.of c.in-Ok.ensures.listed c.in-Ok.ensures.valid c.in-Ok.ensures.indexed c.in-Ok.ensures.copied;
   holds = λ told.
       held_more c.args.rows.now c.loop-row.kept.items c.loop-row.row-index c.row-item.result c.loop-row-test.true c.row-item.is c.in-Ok.one c.push.new.self.items c.in_ok-push-in-Ok.ensures.items
       (g.P.Panel.files c.args.panel.now) c.args.dir.now (c.loop-row.invariant.holds told)

@@ -10,7 +10,8 @@ use Rattle.acfg_store.specs.Names.{IsOfDirectory}
 use Rattle.acfg_store.specs.Opening.{all_sets_of, entries_of}
 use Rattle.acfg_store.specs.Store.{StoreView}
 use Rattle.acfg_store.proofs.Changing.{leaves_more}
-use Rattle.acfg_store.proofs.BootCommitted.{boot_leaves, boot_rests, booted_apart, booted_own, entries_booted, kept_booted, kept_valid, layout_booted, sets_booted}
+use Rattle.acfg_store.proofs.BootCommitted.{boot_leaves, boot_rests, booted_apart, booted_own, entries_booted, kept_booted, layout_booted, sets_booted}
+use Rattle.acfg_store.proofs.CopyCommitted.{kept_valid}
 use Rattle.acfg_store.proofs.store.Store.boot_at.Goals as goal
 
 pub plan_boot-requires-clause-valid : goal.plan_boot-requires-clause-valid
@@ -85,7 +86,7 @@ invariant_of-result g c =
     let new : Kept = c.take_boot.new.self in
     let mine = c.index_mut-one.result.now in
     let same : mine ≡ one = c.index_mut-one.ensures.value ∙ get_or_default old c.args.at mine one within ∙ sym c.index.ensures in
-    let by : IsBootedBy plan.boot one new = subst (λ (k : Kept). IsBootedBy plan.boot k new) same c.take_boot.ensures in
+    let by : IsBootedBy plan.writes.boot one new = subst (λ (k : Kept). IsBootedBy plan.writes.boot k new) same c.take_boot.ensures in
     kept_booted dir old c.self.invariant c.args.at within one c.index.ensures plan planned new by
 
 pub returns-clause-entries : goal.returns-clause-entries
@@ -99,7 +100,7 @@ returns-clause-entries g c other =
     let new : Kept = c.take_boot.new.self in
     let mine = c.index_mut-one.result.now in
     let same : mine ≡ one = c.index_mut-one.ensures.value ∙ get_or_default old c.args.at mine one within ∙ sym c.index.ensures in
-    let by : IsBootedBy plan.boot one new = subst (λ (k : Kept). IsBootedBy plan.boot k new) same c.take_boot.ensures in
+    let by : IsBootedBy plan.writes.boot one new = subst (λ (k : Kept). IsBootedBy plan.writes.boot k new) same c.take_boot.ensures in
     entries_booted dir old c.self.invariant c.args.at within one c.index.ensures plan planned new by other ∙ ap (λ (s : StoreView). booted_at s.entries c.args.at other) c.self.view_is
 
 pub returns-clause-changes : goal.returns-clause-changes
@@ -151,7 +152,7 @@ returns-clause-open g c told =
     let new : Kept = c.take_boot.new.self in
     let mine = c.index_mut-one.result.now in
     let same : mine ≡ one = c.index_mut-one.ensures.value ∙ get_or_default old c.args.at mine one within ∙ sym c.index.ensures in
-    let by : IsBootedBy plan.boot one new = subst (λ (k : Kept). IsBootedBy plan.boot k new) same c.take_boot.ensures in
+    let by : IsBootedBy plan.writes.boot one new = subst (λ (k : Kept). IsBootedBy plan.writes.boot k new) same c.take_boot.ensures in
     let first = g.D.Panel.files c.args.device.now in
     let spoken = g.D.Panel.said c.args.device.now in
     let start = g.D.Panel.account c.args.device.now in
