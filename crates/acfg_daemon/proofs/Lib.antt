@@ -1,9 +1,13 @@
+pub mod Answered
 pub mod Clients
 pub mod Cuts
 pub mod Going
 pub mod Joined
 pub mod Keyed
 pub mod Numbered
+pub mod OneLine
 pub mod OneTranscript
+pub mod Opening
+pub mod Played
 pub mod SomeTranscript
 pub mod Words

@@ -58,35 +58,43 @@ some_file : (container path : List ℕ) (file : Option (List ℕ)) → Some_ ((l
 some_file container path None none = none (Missing, refl)
 some_file container path (Some bytes) none = some_bytes container path bytes none
 
-some_load : (files : Files) (request : Request) → Some_ ((loaded : Option Loaded) × Loads files request loaded)
-some_load files (Update name dir) none = some_file name (source_path dir) (files (source_path dir)) (λ found. none (Some found.0, found.1))
-some_load files (Server name «package» flag value) none = none (None, refl)
-some_load files (Local name «package» flag value now) none = none (None, refl)
-some_load files (Unset name «package» flag now) none = none (None, refl)
-some_load files Boot none = none (None, refl)
-some_load files (Get name «package» flag) none = none (None, refl)
+some_source : (files : Files) (request : Request) → Some_ ((loaded : Option Loaded) × Loads files request loaded)
+some_source files (Update name dir) none = some_file name (source_path dir) (files (source_path dir)) (λ found. none (Some found.0, found.1))
+some_source files (Server name «package» flag value) none = none (None, refl)
+some_source files (Local name «package» flag value now) none = none (None, refl)
+some_source files (Unset name «package» flag now) none = none (None, refl)
+some_source files Boot none = none (None, refl)
+some_source files (Get name «package» flag) none = none (None, refl)
 
-some_serving : (files : Files) (state : State) (text : List ℕ) → Some_ ((after : State) × (reply : Reply) × Serves files state text after reply)
-some_serving files state text =
-    by_cases {P = (request : Request) × Spells text request}
-    (λ asked. then (some_load files asked.0) (λ found none. let made = step state asked.0 found.0 in none (made.0, made.1, inl (asked.0, found.0, asked.1, found.1, refl))))
-    (λ never none. none (state, bad_request, inr (λ request spells. never (request, spells), refl, refl)))
+-- something can be loaded for each request
+abbrev pub IsSomeLoad : (Request → Option Loaded → Type 0) → Type 0
+IsSomeLoad loads = (request : Request) → Some_ ((loaded : Option Loaded) × loads request loaded)
 
-some_answer : (files : Files) (state : State) (event : Event) → Some_ ((after : State) × (said : List ℕ) × EventSays files state event after said)
-some_answer files state (Complete client text) none = some_serving files state text (λ served. none (served.0, reply_line client served.1, (served.1, served.2, refl)))
-some_answer files state (TooLong client) none = none (state, reply_line client too_long, (refl, refl))
-some_answer files state (BadLine number) none = none (state, bad_line number, (refl, refl))
+module _ (loads : Request → Option Loaded → Type 0) (some_load : IsSomeLoad loads) where
+  some_serving : (state : State) (text : List ℕ) → Some_ ((after : State) × (reply : Reply) × Serves loads state text after reply)
+  some_serving state text =
+      by_cases {P = (request : Request) × Spells text request}
+      (λ asked. then (some_load asked.0) (λ found none. let made = step state asked.0 found.0 in none (made.0, made.1, inl (asked.0, found.0, asked.1, found.1, refl))))
+      (λ never none. none (state, bad_request, inr (λ request spells. never (request, spells), refl, refl)))
 
-some_event : (number : ℕ) (line : List ℕ) → Some_ ((event : Event) × IsEvent number line event)
-some_event number line =
-    by_cases {P = (client : ℕ) × (piece : List ℕ) × IsGood line client piece}
-    (λ good none. ⊎_elim (λ over. none (TooLong good.0, (good.1, good.2, over))) (λ fits. none (Complete good.0 good.1, (good.2, fits))) (cases_lt most_bytes (length good.1)))
-    (λ never none. none (BadLine number, (refl, λ client piece good. never (client, piece, good))))
+  some_answer : (state : State) (event : Event) → Some_ ((after : State) × (said : List ℕ) × EventSays loads state event after said)
+  some_answer state (Complete client text) none = some_serving state text (λ served. none (served.0, reply_line client served.1, (served.1, served.2, refl)))
+  some_answer state (TooLong client) none = none (state, reply_line client too_long, (refl, refl))
+  some_answer state (BadLine number) none = none (state, bad_line number, (refl, refl))
 
-pub some_transcript : (files : Files) (state : State) (number : ℕ) (lines : List (List ℕ)) → Some_ ((text : List ℕ) × Transcript files state number lines text)
-some_transcript files state number [] none = none ([], refl)
-some_transcript files state number (line ∷ lines) none =
-    some_event number line (λ event.
-    some_answer files state event.0 (λ answer.
-    some_transcript files answer.0 (number + 1) lines (λ rest.
-    none (answer.1 ++ rest.0, (answer.0, answer.1, rest.0, (event.0, event.1, answer.2), rest.1, refl)))))
+  some_event : (number : ℕ) (line : List ℕ) → Some_ ((event : Event) × IsEvent number line event)
+  some_event number line =
+      by_cases {P = (client : ℕ) × (piece : List ℕ) × IsGood line client piece}
+      (λ good none. ⊎_elim (λ over. none (TooLong good.0, (good.1, good.2, over))) (λ fits. none (Complete good.0 good.1, (good.2, fits))) (cases_lt most_bytes (length good.1)))
+      (λ never none. none (BadLine number, (refl, λ client piece good. never (client, piece, good))))
+
+  pub some_run : (state : State) (number : ℕ) (lines : List (List ℕ)) → Some_ ((text : List ℕ) × Transcript loads state number lines text)
+  some_run state number [] none = none ([], refl)
+  some_run state number (line ∷ lines) none =
+      some_event number line (λ event.
+      some_answer state event.0 (λ answer.
+      some_run answer.0 (number + 1) lines (λ rest.
+      none (answer.1 ++ rest.0, (answer.0, answer.1, rest.0, (event.0, event.1, answer.2), rest.1, refl)))))
+
+pub some_transcript : (files : Files) (state : State) (number : ℕ) (lines : List (List ℕ)) → Some_ ((text : List ℕ) × Transcript (Loads files) state number lines text)
+some_transcript files = some_run (Loads files) (some_source files)

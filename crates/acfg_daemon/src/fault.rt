@@ -2,12 +2,16 @@
 
 use acfg_base::OutOfMemory;
 use acfg_device::{Failed, ReadFault};
+use acfg_store::StoreFault;
 use std::alloc::{AllocError, AllocFailed};
 use thiserror::Error;
 
 /// Why a script ends before its last line.
 #[derive(Debug, PartialEq, Eq, Drop, Error)]
 pub enum DaemonFault {
+    /// The directory stands for no state: the name of the first file at fault.
+    #[error("damaged {0}")]
+    Damaged(String),
     /// The outside failed.
     #[error("the outside failed")]
     Device,
@@ -71,5 +75,20 @@ impl From<Failed> for DaemonFault {
 
     fn from(_failure: Failed) -> DaemonFault {
         DaemonFault::Device
+    }
+}
+
+impl From<StoreFault> for DaemonFault {
+    ghost use Rattle.std.specs.Prelude.{◌≡◌};
+    ghost use Rattle.acfg_daemon.specs.Playing.{fault_of_store};
+
+    ghost from_gives = { λ fault made. made ≡ fault_of_store fault };
+
+    fn from(fault: StoreFault) -> DaemonFault {
+        match fault {
+            StoreFault::Damaged(name) => DaemonFault::Damaged(name),
+            StoreFault::Device => DaemonFault::Device,
+            StoreFault::OutOfMemory => DaemonFault::OutOfMemory,
+        }
     }
 }

@@ -4,6 +4,7 @@
 mod fault;
 mod lines;
 mod rehearsal;
+mod replaying;
 mod replies;
 mod requests;
 mod sources;
@@ -11,5 +12,6 @@ mod sources;
 pub use fault::DaemonFault;
 pub use lines::{script_of_lines, split_line};
 pub use rehearsal::{one_transcript, rehearse, some_transcript};
+pub use replaying::{one_replay, replay};
 pub use replies::reply_text;
 pub use requests::parse_request;

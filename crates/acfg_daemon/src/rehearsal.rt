@@ -1,25 +1,26 @@
 //! Scripts answered by the plain machine in memory.
 
-ghost use Rattle.std.specs.Prelude.{◌≡◌, ◌≤◌, ◌++◌, ◌⊎◌, ℕ, List, Option, IfOk, OnOk, OnErr, IsTrue};
+ghost use Rattle.std.specs.Prelude.{◌≡◌, ◌≤◌, ◌++◌, ◌⊎◌, ℕ, List, Option, IfErr, IfOk, OnOk, OnErr, IsTrue};
 ghost use Rattle.std.specs.Prelude.{string_bytes};
 ghost use Rattle.std.specs.FinMap.{empty};
 ghost use Rattle.acfg_device.specs.Only.{OnlyReads, OnlySays};
 ghost use Rattle.acfg_device.specs.Panel.{Files, SaysPart};
 ghost use Rattle.acfg_model.specs.State.{State};
 ghost use Rattle.acfg_daemon.specs.Lines.{lines};
+ghost use Rattle.acfg_daemon.specs.Replayed.{IsNoDamage};
 ghost use Rattle.acfg_daemon.specs.Replies.{IsNumbered};
 ghost use Rattle.acfg_model.specs.declared.requests.Loaded.{Loaded};
-ghost use Rattle.acfg_daemon.specs.Sources.{BytesLoad};
-ghost use Rattle.acfg_daemon.specs.Transcript.{Transcript, Begins, BeginsLine, LineSays, Serves, bad_line};
+ghost use Rattle.acfg_daemon.specs.Sources.{BytesLoad, Loads};
+ghost use Rattle.acfg_daemon.specs.Transcript.{Transcript, Begins, BeginsLine, LineSays, Serves};
 
 use crate::fault::DaemonFault;
 use crate::lines::{Arrived, read_line, split_line};
-use crate::replies::put_reply;
+use crate::replies::{put_bad_line, put_reply};
 use crate::requests::parse_request;
 use crate::sources::load;
 use acfg_device::Panel;
 use acfg_model::{Machine, Refusal, Reply};
-use std::alloc::{AllocError, Global};
+use std::alloc::Global;
 
 /// Answers a script on an empty machine in memory: one line said for each line of the script, after its step and
 /// before the next line is taken. An update reads `DIR/flags.aconfig`.
@@ -31,15 +32,18 @@ pub fn rehearse<P: Panel>(alloc: Global, panel: &mut P, script: &[u8]) -> Result
     // Where the panel tells its files and words: with `Ok` the transcript was said; whatever ends the script, a first
     // part of it was said, and a part of each transcript.
     ensures told { IsTrue P.tells → OnOk result ((text : List ℕ)
-        × Transcript (P.files panel.old) empty 1 (lines script.now) text
+        × Transcript (Loads (P.files panel.old)) empty 1 (lines script.now) text
         × (P.said panel.new ≡ P.said panel.old ++ text)) }
-    ensures begun { IsTrue P.tells → (text : List ℕ) × Begins (P.files panel.old) empty 1 (lines script.now) text
+    ensures begun { IsTrue P.tells → (text : List ℕ)
+        × Begins (Loads (P.files panel.old)) empty 1 (lines script.now) text
         × (P.said panel.new ≡ P.said panel.old ++ text) }
-    ensures part { IsTrue P.tells → (text : List ℕ) → Transcript (P.files panel.old) empty 1 (lines script.now) text
+    ensures part { IsTrue P.tells → (text : List ℕ)
+        → Transcript (Loads (P.files panel.old)) empty 1 (lines script.now) text
         → SaysPart (P.said panel.old) (P.said panel.new) text }
 
     // Of every panel.
     ensures says { OnlySays P.Panel panel.old panel.new (result ≡ Err DaemonFault.Device) }
+    ensures fault { IfErr result IsNoDamage }
 {
     let mut machine = Machine::new(alloc);
     let mut reply = String::new(alloc);
@@ -64,12 +68,13 @@ fn take_line<P: Panel>(
     line: &[u8],
 ) -> Result<(), DaemonFault>
     ensures ok { IsTrue P.tells → OnOk result ((said : List ℕ)
-        × LineSays (P.files panel.old) machine.old number line.now machine.new said
+        × LineSays (Loads (P.files panel.old)) machine.old number line.now machine.new said
         × (P.said panel.new ≡ P.said panel.old ++ said)) }
     ensures err { IsTrue P.tells → OnErr result ((part : List ℕ)
-        × BeginsLine (P.files panel.old) machine.old number line.now part
+        × BeginsLine (Loads (P.files panel.old)) machine.old number line.now part
         × (P.said panel.new ≡ P.said panel.old ++ part)) }
     ensures says { OnlySays P.Panel panel.old panel.new (result ≡ Err DaemonFault.Device) }
+    ensures fault { IfErr result IsNoDamage }
 {
     answer(alloc, panel, machine, reply, number, line)?;
     panel.say(reply.as_bytes())?;
@@ -86,8 +91,9 @@ fn answer<P: Panel>(
     line: &[u8],
 ) -> Result<(), DaemonFault>
     ensures told { IsTrue P.tells → OnOk result
-        (LineSays (P.files panel.old) machine.old number line.now machine.new (string_bytes reply.new)) }
+        (LineSays (Loads (P.files panel.old)) machine.old number line.now machine.new (string_bytes reply.new)) }
     ensures reads { OnlyReads P.Panel panel.old panel.new (result ≡ Err DaemonFault.Device) }
+    ensures fault { IfErr result IsNoDamage }
 {
     match read_line(line) {
         Arrived::BadLine => Ok(put_bad_line(reply, number)?),
@@ -102,14 +108,6 @@ fn answer<P: Panel>(
     }
 }
 
-// Gives a text the line that tells a bad line.
-fn put_bad_line(reply: &mut String, number: usize) -> Result<(), AllocError>
-    ensures { OnOk result (string_bytes reply.new ≡ bad_line number) }
-{
-    reply.clear();
-    write!(reply, "? bad-line {number}\n")
-}
-
 // The reply to a request's text.
 fn serve<P: Panel>(
     alloc: Global,
@@ -117,9 +115,10 @@ fn serve<P: Panel>(
     machine: &mut Machine,
     text: &[u8],
 ) -> Result<Reply, DaemonFault>
-    ensures told { IsTrue P.tells → IfOk result (Serves (P.files panel.old) machine.old text.now machine.new) }
+    ensures told { IsTrue P.tells → IfOk result (Serves (Loads (P.files panel.old)) machine.old text.now machine.new) }
     ensures numbered { IfOk result IsNumbered }
     ensures reads { OnlyReads P.Panel panel.old panel.new (result ≡ Err DaemonFault.Device) }
+    ensures fault { IfErr result IsNoDamage }
 {
     let Some(request) = parse_request(alloc, text)? else {
         return Ok(Reply::Refused(Refusal::BadRequest.number()));
@@ -131,12 +130,13 @@ fn serve<P: Panel>(
 /// A script has one transcript on the same files, and what begins it is a first part of it.
 pub fn one_transcript()
     ensures same { (files : Files) (state : State) (number : ℕ) (lines : List (List ℕ)) (text other : List ℕ)
-        → Transcript files state number lines text → Transcript files state number lines other → text ≡ other }
+        → Transcript (Loads files) state number lines text → Transcript (Loads files) state number lines other
+        → text ≡ other }
     ensures begins { (files : Files) (state : State) (number : ℕ) (lines : List (List ℕ)) (part text : List ℕ)
-        → Begins files state number lines part → Transcript files state number lines text
+        → Begins (Loads files) state number lines part → Transcript (Loads files) state number lines text
         → (rest : List ℕ) × (text ≡ part ++ rest) }
     ensures whole { (files : Files) (state : State) (number : ℕ) (lines : List (List ℕ)) (text : List ℕ)
-        → Transcript files state number lines text → Begins files state number lines text }
+        → Transcript (Loads files) state number lines text → Begins (Loads files) state number lines text }
 {}
 
 /// It can't be that a script has no transcript, nor that bytes load nothing.
@@ -144,5 +144,5 @@ pub fn some_transcript()
     ensures loads { (container path bytes : List ℕ)
         → ¬ ((loaded : Loaded) → BytesLoad container path bytes loaded → ⊥) }
     ensures script { (files : Files) (state : State) (number : ℕ) (lines : List (List ℕ))
-        → ¬ ((text : List ℕ) → Transcript files state number lines text → ⊥) }
+        → ¬ ((text : List ℕ) → Transcript (Loads files) state number lines text → ⊥) }
 {}

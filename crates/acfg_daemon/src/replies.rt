@@ -4,6 +4,7 @@ ghost use Rattle.std.specs.Prelude.{◌≡◌, [], ◌++◌, codes, IfOk, OnOk, 
 ghost use Rattle.std.specs.Fmt.{decimal};
 ghost use Rattle.hex.specs.Hex.{encode_lower};
 ghost use Rattle.acfg_model.specs.Refusals.{refusal_name, IsRefusal};
+ghost use Rattle.acfg_daemon.specs.Transcript.{bad_line};
 ghost use Rattle.acfg_daemon.specs.Replies.{boot_word, client_line, reply_line, IsNumbered};
 
 use acfg_base::OutOfMemory;
@@ -39,6 +40,14 @@ pub fn put_reply(
         Reply::Value(value) => put_words(line, client, word_of_value(*value)),
         Reply::Refused(number) => put_refused(line, client, *number),
     }
+}
+
+/// Gives a text the line that tells a bad line by its number, in the place of all that it has.
+pub fn put_bad_line(reply: &mut String, number: usize) -> Result<(), AllocError>
+    ensures { OnOk result (string_bytes reply.new ≡ bad_line number) }
+{
+    reply.clear();
+    write!(reply, "? bad-line {number}\n")
 }
 
 fn put_words(line: &mut String, client: u8, words: &str) -> Result<(), AllocError>

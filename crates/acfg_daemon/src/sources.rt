@@ -1,10 +1,11 @@
 //! What an update loads: the flags of a declarations file.
 
-ghost use Rattle.std.specs.Prelude.{◌≡◌, IfOk, IsTrue, string_bytes};
+ghost use Rattle.std.specs.Prelude.{◌≡◌, IfErr, IfOk, IsTrue, string_bytes};
 ghost use Rattle.sha2.specs.Sha256.{sha256};
 ghost use Rattle.acfg_decls.specs.Reading.{Declares};
 ghost use Rattle.acfg_device.specs.Only.{OnlyReads};
 ghost use Rattle.acfg_model.specs.Step.{Fits, IsLoadedFor};
+ghost use Rattle.acfg_daemon.specs.Replayed.{IsNoDamage};
 ghost use Rattle.acfg_daemon.specs.Sources.{BytesLoad, FileLoads, Loads, source_path};
 
 use crate::fault::DaemonFault;
@@ -27,6 +28,7 @@ pub fn load<P: Panel>(
     ensures told { IsTrue P.tells → IfOk result (Loads (P.files panel.old) request.now) }
     ensures fits { IfOk result (IsLoadedFor request.now) }
     ensures reads { OnlyReads P.Panel panel.old panel.new (result ≡ Err DaemonFault.Device) }
+    ensures fault { IfErr result IsNoDamage }
 {
     match request {
         Request::Update { container, dir } => {
@@ -47,6 +49,7 @@ fn load_directory<P: Panel>(
         (FileLoads container.now (source_path dir.now) (P.files panel.old (source_path dir.now))) }
     ensures fits { IfOk result Fits }
     ensures reads { OnlyReads P.Panel panel.old panel.new (result ≡ Err DaemonFault.Device) }
+    ensures fault { IfErr result IsNoDamage }
 {
     let path = path_in(alloc, dir)?;
     match panel.read(alloc, path.as_str())? {
