@@ -1,7 +1,7 @@
 -- What is judged step by step: the answer of a step makes that of the whole.
-use Rattle.std.proofs.Common.{◌≡◌, ℕ, List, refl, inl, inr}
+use Rattle.std.proofs.Common.{ℕ, List, refl, inl, inr}
 use Rattle.std.specs.Prelude.{Result, Ok, Err, IfOk}
-use Rattle.acfg_top.specs.Bodies.{IfRefused, IsAnswer, IsMade, IsOf, IsOutputOf, IsProduct}
+use Rattle.acfg_top.specs.Bodies.{IfRefused, IsAnswer, IsMade, IsOf, IsProduct}
 use Rattle.acfg_top.specs.Inputs.{Judged}
 use Rattle.acfg_top.specs.Outcome.{Outcome, Refused, Done}
 use Rattle.acfg_top.specs.declared.ending.Stop.{Stop}

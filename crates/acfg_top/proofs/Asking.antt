@@ -2,7 +2,7 @@
 use Rattle.std.proofs.Common.{◌≡◌, ℕ, List, [], ◌∷◌, if◌then◌else◌, codes, sym, ◌∙◌, ap, subst}
 use Rattle.std.specs.Prelude.{Option, None, Some}
 use Rattle.std.specs.Str.{bytes_eq}
-use Rattle.acfg_top.specs.Words.{ArePathWords, Command, Flags, Rehearse, Query, Dump, CreateCache, CreateStorage, CreateAll, Asks}
+use Rattle.acfg_top.specs.Words.{ArePathWords, Command, Flags, Rehearse, Replay, Query, Dump, CreateCache, CreateStorage, CreateAll, Asks}
 
 flags_of : List (List ℕ) → Option Command
 flags_of (file ∷ []) = Some (Flags file)
@@ -11,6 +11,10 @@ flags_of _ = None
 rehearse_of : List (List ℕ) → Option Command
 rehearse_of (script ∷ []) = Some (Rehearse script)
 rehearse_of _ = None
+
+replay_of : List (List ℕ) → Option Command
+replay_of (script ∷ dir ∷ []) = Some (Replay script dir)
+replay_of _ = None
 
 query_of : List (List ℕ) → Option Command
 query_of (dir ∷ name ∷ flag ∷ []) = Some (Query dir name flag)
@@ -37,21 +41,23 @@ named : List ℕ → List (List ℕ) → Option Command
 named name rest =
     if bytes_eq name (codes "flags") then flags_of rest
     else (if bytes_eq name (codes "rehearse") then rehearse_of rest
+    else (if bytes_eq name (codes "replay") then replay_of rest
     else (if bytes_eq name (codes "query") then query_of rest
     else (if bytes_eq name (codes "dump") then dump_of rest
     else (if bytes_eq name (codes "create-cache") then create_cache_of rest
     else (if bytes_eq name (codes "create-storage") then create_storage_of rest
     else (if bytes_eq name (codes "create-all") then create_all_of rest
-    else None))))))
+    else None)))))))
 
 asked_of : List (List ℕ) → Option Command
 asked_of [] = None
 asked_of (name ∷ rest) = named name rest
 
 back : (words : List (List ℕ)) (command : Command) → Asks words command → asked_of words ≡ Some command
-unfolding asked_of named flags_of rehearse_of query_of dump_of create_cache_of create_storage_of create_all_of
+unfolding asked_of named flags_of rehearse_of replay_of query_of dump_of create_cache_of create_storage_of create_all_of
 back words (Flags file) asks = ap asked_of asks.0
 back words (Rehearse script) asks = ap asked_of asks.0
+back words (Replay script dir) asks = ap asked_of asks.0
 back words (Query dir name flag) asks = ap asked_of asks.0
 back words (Dump format filter files) asks = ap asked_of asks.0
 back words (CreateCache name container out files) asks = ap asked_of asks.0

@@ -1,7 +1,7 @@
 -- What `create-cache` and words behind it can ask for.
 use Rattle.std.proofs.Common.{◌≡◌, ℕ, Bool, true, false, List, [], ◌∷◌, codes, sym, ap, subst}
 use Rattle.std.specs.Str.{bytes_eq}
-use Rattle.acfg_top.specs.Words.{ArePathWords, Asks, Command, Flags, Rehearse, Query, Dump, CreateCache, CreateStorage, CreateAll}
+use Rattle.acfg_top.specs.Words.{ArePathWords, Asks, Command, Flags, Rehearse, Replay, Query, Dump, CreateCache, CreateStorage, CreateAll}
 
 is_cached : List (List ℕ) → Bool
 is_cached [] = false
@@ -17,6 +17,7 @@ pub no_files : («package» container out : List ℕ) (files : List (List ℕ)) 
 unfolding is_cached behind
 no_files «package» container out files none (Flags file) asks = let no : true ≡ false = ap is_cached asks.0 in cc
 no_files «package» container out files none (Rehearse script) asks = let no : true ≡ false = ap is_cached asks.0 in cc
+no_files «package» container out files none (Replay script dir) asks = let no : true ≡ false = ap is_cached asks.0 in cc
 no_files «package» container out files none (Query dir name flag) asks = let no : true ≡ false = ap is_cached asks.0 in cc
 no_files «package» container out files none (Dump format filter more) asks = let no : true ≡ false = ap is_cached asks.0 in cc
 no_files «package» container out files none (CreateCache name of at more) asks = none (subst ArePathWords (sym (ap behind asks.0)) asks.4)

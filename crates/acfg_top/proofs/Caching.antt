@@ -1,10 +1,9 @@
 -- Caches that are read and merged have one outcome, and some outcome.
-use Rattle.std.proofs.Common.{◌≡◌, ℕ, Bool, List, [], ◌∷◌, ◌++◌, refl, sym, ◌∙◌, ap}
+use Rattle.std.proofs.Common.{ℕ, Bool, List, [], ◌∷◌, ◌++◌, refl, sym, ◌∙◌, ap}
 use Rattle.std.specs.Prelude.{All, slice_index_or, codes}
 use Rattle.std.proofs.lemmas.List.Elements.{All-cons, All-nil}
 use Rattle.acfg_decls.specs.Flags.{AreFlags}
 use Rattle.acfg_decls.specs.declared.flags.Flag.{Flag}
-use Rattle.acfg_cache.specs.declared.fault.CacheFault.{CacheFault}
 use Rattle.acfg_cache.proofs.OneReading.{clash_once, fails_once, merged_apart, reads_apart, reads_once, some_reading}
 use Rattle.acfg_cache.proofs.OneMerging.{merged_once, some_merging}
 use Rattle.acfg_cache.specs.Merging.{IsMerged}

@@ -17,7 +17,6 @@ use Rattle.acfg_top.specs.Flags.{fault_words}
 use Rattle.acfg_top.specs.Inputs.{AreAccepted, FirstRefused, Given, inputs_in}
 use Rattle.acfg_top.specs.Outcome.{Outcome, Done}
 use Rattle.acfg_top.proofs.Judging.{IsJudge, IsOne, Some_, in_order, inputs_once, judged_once, some_in_order, some_inputs, some_judged}
-use Rattle.std.specs.Prelude.{◌⊎◌}
 use Rattle.std.proofs.Common.{⊎_elim}
 
 declaring : IsJudge IsDeclarations IsBadDeclarations

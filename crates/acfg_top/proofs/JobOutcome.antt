@@ -15,7 +15,10 @@ use Rattle.acfg_top.specs.CreateAll.{AllStored, CreateAllGives, EachGives, First
 use Rattle.acfg_top.specs.CreateStorage.{FlagsStored, IsNoOwnCache, IsOwnCache, ListsStored, StoredGives, image_told, limit_words, set_writes, stored_line}
 use Rattle.acfg_top.specs.Inputs.{AreAccepted, FirstRefused, Given, Judged, WithInputs, inputs_in}
 use Rattle.acfg_top.specs.JobList.{AreJobs, Job}
-use Rattle.acfg_top.specs.Outcome.{Outcome, Usage, Refused, Done, Writes}
+use Rattle.acfg_top.specs.Outcome.{Outcome, Usage, Refused, Damaged, Done, Replayed, Writes}
+use Rattle.acfg_top.specs.Bodies.{IsProduct}
+use Rattle.acfg_top.specs.declared.ending.Ending.TheVariants as end
+use Rattle.acfg_top.specs.declared.output.Output.{Output}
 use Rattle.acfg_top.proofs.Judging.{IsOne, Some_, inputs_once, judged_once, some_inputs, some_judged}
 use Rattle.acfg_top.proofs.OneList.{jobs_once, never_both, number_once, some_list}
 use Rattle.acfg_top.proofs.Storing.{create_storage_unique, some_create_storage}
@@ -31,18 +34,19 @@ stored_apart a b same =
     let writes : a.writes ≡ b.writes = cc in
     λ i. record { text = text i; writes = writes i }
 
--- no usage follows from what is judged, looked for or built
-no_judgement : {X : Type 0} (refuses : List ℕ → List ℕ → Type 0) (accepts : X → Type 0) (follows : X → Outcome → Type 0) → ((x : X) → follows x Usage → ⊥) → Judged refuses accepts follows Usage → ⊥
-no_judgement refuses accepts follows next (inl (file, what, refused, is)) = let told : Usage ≡ Refused file what = is in cc
-no_judgement refuses accepts follows next (inr (x, accepted, given)) = next x given
+-- an outcome that is neither a refusal nor done doesn't follow from what is judged, looked for or built
+module _ (other : Outcome) (unrefused : (file what : List ℕ) → other ≡ Refused file what → ⊥) (undone : (text : List ℕ) (writes : Writes) → other ≡ Done text writes → ⊥) where
+  no_judgement : {X : Type 0} (refuses : List ℕ → List ℕ → Type 0) (accepts : X → Type 0) (follows : X → Outcome → Type 0) → ((x : X) → follows x other → ⊥) → Judged refuses accepts follows other → ⊥
+  no_judgement refuses accepts follows next (inl (file, what, refused, is)) = unrefused file what is
+  no_judgement refuses accepts follows next (inr (x, accepted, given)) = next x given
 
-looked_up : (found : Result (List Given) (List ℕ)) (follows : List Given → Outcome → Type 0) → ((inputs : List Given) → follows inputs Usage → ⊥) → WithInputs found follows Usage → ⊥
-looked_up (Err missing) follows next given = let told : Usage ≡ Refused missing (codes "missing") = given in cc
-looked_up (Ok inputs) follows next given = next inputs given
+  looked_up : (found : Result (List Given) (List ℕ)) (follows : List Given → Outcome → Type 0) → ((inputs : List Given) → follows inputs other → ⊥) → WithInputs found follows other → ⊥
+  looked_up (Err missing) follows next given = unrefused missing (codes "missing") given
+  looked_up (Ok inputs) follows next given = next inputs given
 
-no_image : (dir : List ℕ) (flags : List Compiled) (made : Result SetFiles BuildFault) → Usage ≡ image_told dir flags made → ⊥
-no_image dir flags (Ok set) is = let told : Usage ≡ Done (stored_line flags set) (set_writes dir set) = is in cc
-no_image dir flags (Err fault) is = let told : Usage ≡ Refused dir (limit_words fault) = is in cc
+  no_image : (dir : List ℕ) (flags : List Compiled) (made : Result SetFiles BuildFault) → other ≡ image_told dir flags made → ⊥
+  no_image dir flags (Ok set) is = undone (stored_line flags set) (set_writes dir set) is
+  no_image dir flags (Err fault) is = unrefused dir (limit_words fault) is
 
 never : (file what text : List ℕ) (writes : Writes) → Refused file what ≡ Done text writes → ⊥
 never file what text writes same = cc
@@ -83,17 +87,27 @@ module _ (files : Files) where
   each_once : (jobs : List Job) (a b : Outcome) → EachGives files jobs a → EachGives files jobs b → a ≡ b
   each_once jobs = judged_once (FirstJobRefused files jobs) (AllZip (IsStored files) jobs) AllStored (one_each jobs) (λ all a b is given also. given ∙ sym also)
 
-  -- no job's outcome is the usage
-  not_usage : (job : Job) → JobGives files job Usage → ⊥
-  not_usage job = looked_up (inputs_in files job.caches) (StoredGives job.container job.dir) (λ inputs.
-      no_judgement (FirstRefused (IsOwnCache job.container) (IsNoOwnCache job.container) inputs) (AreAccepted (IsOwnCache job.container) (IsNoOwnCache job.container) inputs)
+  -- no job's outcome is neither
+  no_other : (other : Outcome) → ((file what : List ℕ) → other ≡ Refused file what → ⊥) → ((text : List ℕ) (writes : Writes) → other ≡ Done text writes → ⊥) → (job : Job) → JobGives files job other → ⊥
+  no_other other unrefused undone job = looked_up other unrefused undone (inputs_in files job.caches) (StoredGives job.container job.dir) (λ inputs.
+      no_judgement other unrefused undone (FirstRefused (IsOwnCache job.container) (IsNoOwnCache job.container) inputs) (AreAccepted (IsOwnCache job.container) (IsNoOwnCache job.container) inputs)
       (ListsStored job.container job.dir (map (λ input. input.name) inputs)) (λ lists.
-      no_judgement (Clashing (map (λ input. input.name) inputs) lists false) (IsMerged lists false) (FlagsStored job.container job.dir) (λ flags.
-      no_image job.dir (map compiled_flag flags) (built job.container (map compiled_flag flags)))))
+      no_judgement other unrefused undone (Clashing (map (λ input. input.name) inputs) lists false) (IsMerged lists false) (FlagsStored job.container job.dir) (λ flags.
+      no_image other unrefused undone job.dir (map compiled_flag flags) (built job.container (map compiled_flag flags)))))
+
+  -- so none tells damage
+  pub undamaged : (job : Job) (output : Output) → IsProduct (JobGives files job) output → output.told.ending ≡ end.Damaged → ⊥
+  undamaged job output (Usage, given, of) damaged = of.ending
+  undamaged job output (Refused file what, given, of) damaged = let no : end.Refused ≡ end.Damaged = sym of.ending ∙ damaged in cc
+  undamaged job output (Damaged file, given, of) damaged = no_other (Damaged file) (λ name what is. cc) (λ text writes is. cc) job given
+  undamaged job output (Done text writes, given, of) damaged = let no : end.Done ≡ end.Damaged = sym of.ending ∙ damaged in cc
+  undamaged job output (Replayed dir text state, given, of) damaged = of.files
 
   -- what a job gives is a refusal, or it is stored
   as_job : (job : Job) (outcome : Outcome) → JobGives files job outcome → ((file what : List ℕ) → JobGives files job (Refused file what) → ⊥) → ((stored : Stored) → IsStored files job stored → ⊥) → ⊥
-  as_job job Usage given refused stored = not_usage job given
+  as_job job Usage given refused stored = no_other Usage (λ file what is. cc) (λ text writes is. cc) job given
+  as_job job (Damaged file) given refused stored = no_other (Damaged file) (λ name what is. cc) (λ text writes is. cc) job given
+  as_job job (Replayed dir text state) given refused stored = no_other (Replayed dir text state) (λ file what is. cc) (λ said writes is. cc) job given
   as_job job (Refused file what) given refused stored = refused file what given
   as_job job (Done text writes) given refused stored = stored (record { text = text; writes = writes }) given
 

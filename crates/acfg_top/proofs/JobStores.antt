@@ -1,102 +1,93 @@
--- Jobs that are stored one after another.
-use Rattle.std.proofs.Common.{◌≡◌, ℕ, zero, suc, ◌+◌, ◌<◌, ◌≤◌, List, [], ◌∷◌, ◌++◌, length, map, drop, take, get_or, refl, sym, ◌∙◌, ap, subst, inl, inr, append_assoc, arith, All, string_bytes, Global}
-use Rattle.std.specs.Prelude.{Option, None, Some, Result, Ok, Err, Contains, IfOk, String}
+-- Jobs that are stored one after another, each of them by itself.
+use Rattle.std.proofs.Common.{◌≡◌, ℕ, ◌+◌, ◌<◌, ◌≤◌, List, [], ◌∷◌, ◌++◌, length, map, drop, get_or, refl, sym, ◌∙◌, ap, subst, inl, inr, append_assoc, string_bytes, Global}
+use Rattle.std.specs.Borrow.{Bor}
+use Rattle.std.specs.Prelude.{Option, None, Some, Result, Ok, Err, Contains, IfOk, String, codes, option_map}
 use Rattle.std.specs.List.{AllZip, flat_map}
-use Rattle.std.proofs.lemmas.List.{append-nil, drop_all, drop_more, flat_map_more, map-append, take-append-drop, take_more}
-use Rattle.std.proofs.lemmas.List.Concat.{flat_map-append}
-use Rattle.std.proofs.lemmas.List.Elements.{All-get_or, Contains-append_cases}
+use Rattle.std.proofs.lemmas.List.{append-nil, drop_all, drop_more, flat_map_more, map-append}
+use Rattle.std.proofs.lemmas.List.Elements.{Contains-append_cases}
 use Rattle.acfg_commit.specs.declared.several.NewFile.{NewFile}
-use Rattle.acfg_commit.specs.Written.{IsNameAmong}
 use Rattle.acfg_device.specs.Panel.{Files}
-use Rattle.acfg_top.specs.Bodies.{AreAmong, IfRefused, IsMade, IsOutputOf, IsProduct, found_of, inputs_of, writes_in}
-use Rattle.acfg_top.specs.CreateAll.{EachGives, FirstJobRefused, IsStored, JobGives, JobsGive, Stored}
-use Rattle.acfg_top.specs.CreateStorage.{StoredGives}
+use Rattle.acfg_top.specs.Bodies.{AreAmong, IsOutputOf, IsProduct, missing_of, writes_in}
+use Rattle.acfg_top.specs.CreateAll.{EachGives, FirstJobRefused, IsStored, JobGives, Stored}
+use Rattle.acfg_top.specs.CreateStorage.{CreateStorageGives}
 use Rattle.acfg_top.specs.Inputs.{Given, Judged, WithInputs, inputs_in, with_found}
-use Rattle.acfg_top.specs.JobBodies.{IsOfStored, IsReady, job_of, jobs_of, work_job}
+use Rattle.acfg_top.specs.JobBodies.{IsOfStored, job_of, jobs_of}
 use Rattle.acfg_top.specs.JobList.{Job}
-use Rattle.acfg_top.specs.Outcome.{Outcome, Done, Refused}
-use Rattle.acfg_top.specs.declared.create_all.Work.{Work}
-use Rattle.acfg_top.specs.declared.inputs.Found.{Found}
-use Rattle.acfg_top.specs.declared.inputs.Input.{Input}
+use Rattle.acfg_top.specs.Outcome.{Outcome, Usage, Damaged, Done, Refused, Replayed}
+use Rattle.acfg_top.specs.declared.ending.Ending.TheVariants as end
 use Rattle.acfg_top.specs.declared.jobs.Job.{Job as Read}
 use Rattle.acfg_top.specs.declared.output.Output.{Output}
-use Rattle.acfg_top.specs.declared.told.Halt.{Halt}
-use Rattle.acfg_top.specs.declared.told.Halt.TheVariants as halt
 use Rattle.acfg_top.proofs.Answering.{product_next}
-use Rattle.acfg_top.proofs.Reading.{refused_weaker}
 
--- ---- caches that are there
+-- ---- caches that aren't there
 
-IsThere : Result (List Given) (List ℕ) → Type 0
-IsThere found = (given : List Given) × (found ≡ Ok given)
+missing_behind : (name bytes : List ℕ) (rest : Result (List Given) (List ℕ)) → missing_of (with_found name (Some bytes) rest) ≡ missing_of rest
+missing_behind name bytes (Ok inputs) = refl
+missing_behind name bytes (Err missing) = refl
 
--- a file in front: what is there behind it decides
-front_missing : (name : List ℕ) (found : Option (List ℕ)) (rest other : Result (List Given) (List ℕ)) (missing : List ℕ) → with_found name found rest ≡ Err missing → (rest ≡ Err missing → other ≡ Err missing) → with_found name found other ≡ Err missing
-front_missing name None rest other missing is on = is
-front_missing name (Some bytes) (Ok inputs) other missing is on = cc
-front_missing name (Some bytes) (Err first) other missing is on = ap (with_found name (Some bytes)) (on is)
+-- a file that is there is none that is missed
+pub missing_next : (files : Files) (name bytes : List ℕ) (names : List (List ℕ)) → files name ≡ Some bytes → missing_of (inputs_in files (name ∷ names)) ≡ missing_of (inputs_in files names)
+missing_next files name bytes names there =
+    ap (λ (found : Option (List ℕ)). missing_of (with_found name found (inputs_in files names))) there ∙ missing_behind name bytes (inputs_in files names)
 
-behind_missing : (name : List ℕ) (found : Option (List ℕ)) (rest other : Result (List Given) (List ℕ)) (given : List Given) (missing : List ℕ) → with_found name found rest ≡ Ok given → ((inputs : List Given) → rest ≡ Ok inputs → other ≡ Err missing) → with_found name found other ≡ Err missing
-behind_missing name None rest other given missing is on = cc
-behind_missing name (Some bytes) (Ok inputs) other given missing is on = ap (with_found name (Some bytes)) (on inputs refl)
-behind_missing name (Some bytes) (Err first) other given missing is on = cc
+-- one that isn't there is the first that is missed
+pub missing_here : (files : Files) (name : List ℕ) (names : List (List ℕ)) → files name ≡ None → missing_of (inputs_in files (name ∷ names)) ≡ Some name
+missing_here files name names absent = ap (λ (found : Option (List ℕ)). missing_of (with_found name found (inputs_in files names))) absent
 
-behind_there : (name : List ℕ) (found : Option (List ℕ)) (rest other : Result (List Given) (List ℕ)) (given : List Given) → with_found name found rest ≡ Ok given → ((inputs : List Given) → rest ≡ Ok inputs → IsThere other) → IsThere (with_found name found other)
-unfolding IsThere
-behind_there name None rest other given is on = cc
-behind_there name (Some bytes) (Ok inputs) other given is on =
-    let all = on inputs refl in (record { name = name; bytes = bytes } ∷ all.0, ap (with_found name (Some bytes)) all.1)
-behind_there name (Some bytes) (Err first) other given is on = cc
+-- the first of files that is missed is the first of all, and where none is missed those behind decide
+in_front : (files : Files) (name : List ℕ) (found : Option (List ℕ)) (rest all : Result (List Given) (List ℕ)) (missing : List ℕ) → (missing_of rest ≡ Some missing → missing_of all ≡ Some missing)
+    → missing_of (with_found name found rest) ≡ Some missing → missing_of (with_found name found all) ≡ Some missing
+in_front files name None rest all missing on is = is
+in_front files name (Some bytes) rest all missing on is = missing_behind name bytes all ∙ on (sym (missing_behind name bytes rest) ∙ is)
 
-pub missing_front : (files : Files) (xs ys : List (List ℕ)) (missing : List ℕ) → inputs_in files xs ≡ Err missing → inputs_in files (xs ++ ys) ≡ Err missing
-missing_front files [] ys missing is = cc
-missing_front files (x ∷ xs) ys missing is = front_missing x (files x) (inputs_in files xs) (inputs_in files (xs ++ ys)) missing is (missing_front files xs ys missing)
+none_in_front : (files : Files) (name : List ℕ) (found : Option (List ℕ)) (rest all : Result (List Given) (List ℕ)) (left : Option (List ℕ)) → (missing_of rest ≡ None → missing_of all ≡ left)
+    → missing_of (with_found name found rest) ≡ None → missing_of (with_found name found all) ≡ left
+none_in_front files name None rest all left on is = let told : Some name ≡ None = is in cc
+none_in_front files name (Some bytes) rest all left on is = missing_behind name bytes all ∙ on (sym (missing_behind name bytes rest) ∙ is)
 
-pub missing_behind : (files : Files) (xs ys : List (List ℕ)) (given : List Given) (missing : List ℕ) → inputs_in files xs ≡ Ok given → inputs_in files ys ≡ Err missing → inputs_in files (xs ++ ys) ≡ Err missing
-missing_behind files [] ys given missing there is = is
-missing_behind files (x ∷ xs) ys given missing there is =
-    behind_missing x (files x) (inputs_in files xs) (inputs_in files (xs ++ ys)) given missing there (λ inputs rest. missing_behind files xs ys inputs missing rest is)
+missing_first : (files : Files) (xs ys : List (List ℕ)) (missing : List ℕ) → missing_of (inputs_in files xs) ≡ Some missing → missing_of (inputs_in files (xs ++ ys)) ≡ Some missing
+missing_first files [] ys missing is = let told : None ≡ Some missing = is in cc
+missing_first files (x ∷ xs) ys missing is = in_front files x (files x) (inputs_in files xs) (inputs_in files (xs ++ ys)) missing (missing_first files xs ys missing) is
 
-both_there : (files : Files) (xs ys : List (List ℕ)) (given : List Given) → inputs_in files xs ≡ Ok given → IsThere (inputs_in files ys) → IsThere (inputs_in files (xs ++ ys))
-both_there files [] ys given there rest = rest
-both_there files (x ∷ xs) ys given there rest =
-    behind_there x (files x) (inputs_in files xs) (inputs_in files (xs ++ ys)) given there (λ inputs more. both_there files xs ys inputs more rest)
+missing_later : (files : Files) (xs ys : List (List ℕ)) → missing_of (inputs_in files xs) ≡ None → missing_of (inputs_in files (xs ++ ys)) ≡ missing_of (inputs_in files ys)
+missing_later files [] ys is = refl
+missing_later files (x ∷ xs) ys is = none_in_front files x (files x) (inputs_in files xs) (inputs_in files (xs ++ ys)) (missing_of (inputs_in files ys)) (missing_later files xs ys) is
 
--- the caches of jobs that were read
-pub all_there : (files : Files) (works : List Work) → All (IsReady files) works → (given : List Given) × (inputs_in files (flat_map (λ job. job.caches) (map work_job works)) ≡ Ok given)
-unfolding IsThere
-all_there files [] ready = ([], refl)
-all_there files (work ∷ works) ready =
-    both_there files (work_job work).caches (flat_map (λ job. job.caches) (map work_job works)) (inputs_of work.inputs.items) (ready 0 work (omega arith))
-    (all_there files works (λ k d low. ready (suc k) d (omega (arith, low))))
+-- the first that is missed of caches, as it was found
+pub found_at : (files loop : Files) (names caches : List (String Global)) (found : Option (Bor (List ℕ))) → loop ≡ files → names ≡ caches → option_map (λ (name : Bor (List ℕ)). name.now) found ≡ missing_of (inputs_in loop (map string_bytes names))
+    → missing_of (inputs_in files (map string_bytes caches)) ≡ option_map (λ (name : Bor (List ℕ)). name.now) found
+found_at files loop names caches found same listed is = sym (is ∙ (λ j. missing_of (inputs_in (same j) (map string_bytes (listed j)))))
 
--- the next job's caches aren't all there
-pub missing_at : (files : Files) (works : List Work) (job : Job) (behind all : List Job) (missing : List ℕ) → All (IsReady files) works → inputs_in files job.caches ≡ Err missing → all ≡ map work_job works ++ job ∷ behind
-    → inputs_in files (flat_map (λ job. job.caches) all) ≡ Err missing
-missing_at files works job behind all missing ready is parts =
-    let there = all_there files works ready in
-    ap (λ jobs. inputs_in files (flat_map (λ job. job.caches) jobs)) parts
-    ∙ ap (inputs_in files) (flat_map-append (λ (job : Job). job.caches) (map work_job works) (job ∷ behind))
-    ∙ missing_behind files (flat_map (λ job. job.caches) (map work_job works)) (job.caches ++ flat_map (λ job. job.caches) behind) there.0 missing there.1
-    (missing_front files job.caches (flat_map (λ job. job.caches) behind) missing is)
+-- the job at hand, and those behind it
+pub job_at : (jobs : List Read) (i : ℕ) (job : Read) → job ≡ get_or jobs i job → i < length jobs → jobs_of (drop i jobs) ≡ job_of job ∷ jobs_of (drop (i + 1) jobs)
+job_at jobs i job is low = ap jobs_of (drop_more jobs i job low) ∙ ap (λ (one : Read). job_of one ∷ jobs_of (drop (i + 1) jobs)) (sym is)
 
--- the caches of a job, as they were found
-pub found_at : (files loop : Files) (names caches : List (String Global)) (found : Found) → loop ≡ files → names ≡ caches → found_of found ≡ inputs_in loop (map string_bytes names) → found_of found ≡ inputs_in files (map string_bytes caches)
-found_at files loop names caches found same listed is = is ∙ (λ j. inputs_in (same j) (map string_bytes (listed j)))
+-- the caches of jobs
+abbrev caches_of : List Job → List (List ℕ)
+caches_of jobs = flat_map (λ job. job.caches) jobs
 
--- the jobs in front of one, itself, and those behind it
-pub parts_at : (jobs : List Read) (front : List Job) (i : ℕ) (job : Read) → job ≡ get_or jobs i job → i < length jobs → front ≡ jobs_of (take i jobs) → jobs_of jobs ≡ front ++ job_of job ∷ jobs_of (drop (i + 1) jobs)
-parts_at jobs front i job is low same =
-    ap jobs_of (sym (take-append-drop i jobs)) ∙ map-append job_of (take i jobs) (drop i jobs)
-    ∙ (λ j. sym same j ++ jobs_of (drop_more jobs i job low j))
-    ∙ ap (λ (one : Read). front ++ job_of one ∷ jobs_of (drop (i + 1) jobs)) (sym is)
+-- the first cache that the jobs at hand miss
+pub job_misses : (files : Files) (jobs : List Read) (i : ℕ) (job : Read) (missing : List ℕ) (all : Option (List ℕ)) → job ≡ get_or jobs i job → i < length jobs
+    → missing_of (inputs_in files (map string_bytes job.caches.items)) ≡ Some missing → missing_of (inputs_in files (flat_map (λ job. job.caches) (jobs_of (drop i jobs)))) ≡ all → Some missing ≡ all
+job_misses files jobs i job missing all is low misses before =
+    sym (missing_first files (job_of job).caches (caches_of (jobs_of (drop (i + 1) jobs))) missing misses)
+    ∙ ap (λ (left : List Job). missing_of (inputs_in files (caches_of left))) (sym (job_at jobs i job is low)) ∙ before
 
-pub one_more : (jobs : List Read) (old new : List Work) (work : Work) (i : ℕ) (job : Read) → job ≡ get_or jobs i job → i < length jobs → new ≡ old ++ work ∷ [] → work_job work ≡ job_of job → map work_job old ≡ jobs_of (take i jobs)
-    → map work_job new ≡ jobs_of (take (i + 1) jobs)
-one_more jobs old new work i job is low more its same =
-    ap (map work_job) more ∙ map-append work_job old (work ∷ []) ∙ (λ j. same j ++ its j ∷ [])
-    ∙ ap (λ (one : Read). jobs_of (take i jobs) ++ job_of one ∷ []) is
-    ∙ sym (map-append job_of (take i jobs) (get_or jobs i job ∷ [])) ∙ ap jobs_of (sym (take_more jobs i job low))
+pub job_has : (files : Files) (jobs : List Read) (i : ℕ) (job : Read) (all : Option (List ℕ)) → job ≡ get_or jobs i job → i < length jobs
+    → missing_of (inputs_in files (map string_bytes job.caches.items)) ≡ None → missing_of (inputs_in files (flat_map (λ job. job.caches) (jobs_of (drop i jobs)))) ≡ all
+    → missing_of (inputs_in files (flat_map (λ job. job.caches) (jobs_of (drop (i + 1) jobs)))) ≡ all
+job_has files jobs i job all is low has before =
+    sym (missing_later files (job_of job).caches (caches_of (jobs_of (drop (i + 1) jobs))) has)
+    ∙ ap (λ (left : List Job). missing_of (inputs_in files (caches_of left))) (sym (job_at jobs i job is low)) ∙ before
+
+-- what follows where no cache is missed, and where one is
+pub none_missing : {E : Type 0} (found : Result (List Given) (List ℕ)) (gives : Outcome → Type 0) (result : Result Output E) → missing_of found ≡ None → IfOk result (IsProduct gives) → IfOk result (IsProduct (WithInputs found (λ inputs. gives)))
+none_missing (Ok inputs) gives result is told = told
+none_missing (Err missing) gives result is told = let no : Some missing ≡ None = is in cc
+
+pub one_missing : (found : Result (List Given) (List ℕ)) (gives : Outcome → Type 0) (missing : List ℕ) → missing_of found ≡ Some missing → WithInputs found (λ inputs. gives) (Refused missing (codes "missing"))
+one_missing (Ok inputs) gives missing is = let no : None ≡ Some missing = is in cc
+one_missing (Err first) gives missing is = let same : first ≡ missing = cc in ap (λ (name : List ℕ). Refused name (codes "missing")) (sym same)
 
 -- ---- jobs in order
 
@@ -114,91 +105,85 @@ goes_more files all made job left stored is goes = record {
   refused = λ file what later. goes.refused file what (inr ((stored, is), later));
 }
 
--- what the work at hand gives by itself is what its job gives
-work_gives : (files : Files) (work : Work) (outcome : Outcome) → IsReady files work → StoredGives (work_job work).container (work_job work).dir (inputs_of work.inputs.items) outcome → JobGives files (work_job work) outcome
-work_gives files work outcome ready given =
-    subst (λ found. WithInputs found (StoredGives (work_job work).container (work_job work).dir) outcome) (sym ready) given
-
 -- ---- the loop
 
--- what is to be written and told is that of the first works
-pub record Stores (works : List Work) (i : ℕ) (output : Output) : Type 0 where
+-- what is to be written and told is that of jobs that are stored, and these are left
+pub record Stores (files : Files) (all left : List Job) (output : Output) : Type 0 where
   pub made : List Stored
   pub is : IsOfStored made output
-  pub goes : (files : Files) → All (IsReady files) works → Goes files (map work_job works) made (map work_job (drop i works))
+  pub goes : Goes files all made left
 
-pub stores_first : (works : List Work) (output : Output) → IsOfStored [] output → Stores works 0 output
-stores_first works output is = record { made = []; is = is; goes = λ files ready. goes_first files (map work_job works) }
+pub stores_first : (files : Files) (all : List Job) (output : Output) → IsOfStored [] output → Stores files all all output
+stores_first files all output is = record { made = []; is = is; goes = goes_first files all }
 
-left_at : (works : List Work) (i : ℕ) (work : Work) → work ≡ get_or works i work → i < length works → map work_job (drop i works) ≡ work_job work ∷ map work_job (drop (i + 1) works)
-left_at works i work is low = ap (map work_job) (drop_more works i work low) ∙ ap (λ work. work_job work ∷ map work_job (drop (i + 1) works)) (sym is)
+-- what is told is done, or it is a refusal
+told_done : (outcome : Outcome) (next : Output) → IsOutputOf outcome next → next.told.ending ≡ end.Done → (stored : Stored) × (outcome ≡ Done stored.text stored.writes)
+told_done Usage next is done = absurd is.ending
+told_done (Refused file what) next is done = let no : end.Refused ≡ end.Done = sym is.ending ∙ done in cc
+told_done (Damaged file) next is done = let no : end.Damaged ≡ end.Done = sym is.ending ∙ done in cc
+told_done (Replayed dir text state) next is done = absurd is.files
+told_done (Done text writes) next is done = (record { text = text; writes = writes }, refl)
 
-ready_at : (files : Files) (works : List Work) (i : ℕ) (work : Work) → work ≡ get_or works i work → i < length works → All (IsReady files) works → IsReady files work
-ready_at files works i work is low ready = subst (IsReady files) (sym is) (ready i work low)
+told_refused : (outcome : Outcome) (next : Output) → IsOutputOf outcome next → next.told.ending ≡ end.Refused → (file what : List ℕ) × (outcome ≡ Refused file what)
+told_refused Usage next is refused = absurd is.ending
+told_refused (Refused file what) next is refused = (file, what, refl)
+told_refused (Damaged file) next is refused = let no : end.Damaged ≡ end.Refused = sym is.ending ∙ refused in cc
+told_refused (Replayed dir text state) next is refused = absurd is.files
+told_refused (Done text writes) next is refused = let no : end.Done ≡ end.Refused = sym is.ending ∙ refused in cc
 
 -- a job more
-pub stores_more : (works : List Work) (i : ℕ) (work : Work) (old new next : Output) → work ≡ get_or works i work → i < length works → Stores works i old
-    → IsMade (StoredGives (work_job work).container (work_job work).dir (inputs_of work.inputs.items)) next
-    → new.told.ending ≡ old.told.ending → new.told.text.items ≡ old.told.text.items ++ next.told.text.items → new.files.items ≡ old.files.items ++ next.files.items → Stores works (i + 1) new
-stores_more works i work old new next is low stores made ending text files =
-    let stored : Stored = record { text = made.text; writes = made.writes } in
+pub stores_more : (files : Files) (all left : List Job) (job : Job) (old new next : Output) → Stores files all (job ∷ left) old → IsProduct (JobGives files job) next → next.told.ending ≡ end.Done
+    → new.told.ending ≡ old.told.ending → new.told.text.items ≡ old.told.text.items ++ next.told.text.items → new.files.items ≡ old.files.items ++ next.files.items → Stores files all left new
+stores_more files all left job old new next stores product done ending text written =
+    let it = told_done product.0 next product.2 done in
+    let stored : Stored = it.0 in
+    let given : IsStored files job stored = subst (JobGives files job) it.1 product.1 in
+    let is : IsOutputOf (Done stored.text stored.writes) next = subst (λ outcome. IsOutputOf outcome next) it.1 product.2 in
     record {
       made = stores.made ++ stored ∷ [];
       is = record {
         ending = ending ∙ stores.is.ending;
-        text = text ∙ (λ j. stores.is.text j ++ made.is.text j) ∙ flat_map_more (λ (one : Stored). one.text) [] stores.made stored;
-        files = ap writes_in files ∙ map-append (λ (file : NewFile). (string_bytes file.name, file.bytes.items)) old.files.items next.files.items
-            ∙ (λ j. stores.is.files j ++ sym made.is.files j) ∙ flat_map_more (λ (one : Stored). one.writes) [] stores.made stored;
+        text = text ∙ (λ j. stores.is.text j ++ is.text j) ∙ flat_map_more (λ (one : Stored). one.text) [] stores.made stored;
+        files = ap writes_in written ∙ map-append (λ (file : NewFile). (string_bytes file.name, file.bytes.items)) old.files.items next.files.items
+            ∙ (λ j. stores.is.files j ++ sym is.files j) ∙ flat_map_more (λ (one : Stored). one.writes) [] stores.made stored;
       };
-      goes = λ files ready. goes_more files (map work_job works) stores.made (work_job work) (map work_job (drop (i + 1) works)) stored
-          (work_gives files work (Done made.text made.writes) (ready_at files works i work is low ready) made.given)
-          (subst (Goes files (map work_job works) stores.made) (left_at works i work is low) (stores.goes files ready));
+      goes = goes_more files all stores.made job left stored given stores.goes;
     }
 
 -- the job at hand is refused
-pub stores_refused : (works : List Work) (i : ℕ) (work : Work) (old : Output) (h : Halt) → work ≡ get_or works i work → i < length works → Stores works i old
-    → IfRefused (λ file what. StoredGives (work_job work).container (work_job work).dir (inputs_of work.inputs.items) (Refused file what)) h
-    → (files : Files) → All (IsReady files) works → IfRefused (λ file what. EachGives files (map work_job works) (Refused file what)) h
-stores_refused works i work old h is low stores refused files ready =
-    refused_weaker (λ file what. StoredGives (work_job work).container (work_job work).dir (inputs_of work.inputs.items) (Refused file what)) (λ file what. EachGives files (map work_job works) (Refused file what)) h
-    (λ file what here. inl (
-      file,
-      what,
-      (stores.goes files ready).refused file what (subst (λ left. FirstJobRefused files left file what) (sym (left_at works i work is low))
-          (inl (work_gives files work (Refused file what) (ready_at files works i work is low ready) here))),
-      refl,
-    )) refused
+pub stores_refused : (files : Files) (all left : List Job) (job : Job) (old next : Output) → Stores files all (job ∷ left) old → IsProduct (JobGives files job) next → next.told.ending ≡ end.Refused → IsProduct (EachGives files all) next
+stores_refused files all left job old next stores product refused =
+    let it = told_refused product.0 next product.2 refused in
+    let given : JobGives files job (Refused it.0 it.1) = subst (JobGives files job) it.2 product.1 in
+    (Refused it.0 it.1, inl (it.0, it.1, stores.goes.refused it.0 it.1 (inl given), refl), subst (λ outcome. IsOutputOf outcome next) it.2 product.2)
 
 -- all are stored
-pub stores_all : (works : List Work) (i : ℕ) (output : Output) → length works ≤ i → Stores works i output → (files : Files) → All (IsReady files) works → IsProduct (EachGives files (map work_job works)) output
-stores_all works i output high stores files ready =
-    let goes : Goes files (map work_job works) stores.made [] = subst (λ left. Goes files (map work_job works) stores.made (map work_job left)) (drop_all i works high) (stores.goes files ready) in
+pub stores_all : (files : Files) (all : List Job) (output : Output) → Stores files all [] output → IsProduct (EachGives files all) output
+stores_all files all output stores =
     let text = flat_map (λ stored. stored.text) stores.made in
     let writes = flat_map (λ stored. stored.writes) stores.made in (
       Done text writes,
-      inr (stores.made, subst (AllZip (IsStored files) (map work_job works)) (append-nil stores.made) (goes.stored [] tt), refl),
+      inr (stores.made, subst (AllZip (IsStored files) all) (append-nil stores.made) (stores.goes.stored [] tt), refl),
       record { ending = stores.is.ending; text = stores.is.text; files = sym stores.is.files },
     )
 
--- what is told of works is told of their jobs
-pub all_told : {E : Type 0} (files : Files) (jobs : List Job) (works read : List Work) (result : Result Output E) → read ≡ works → map work_job works ≡ jobs → All (IsReady files) works
-    → (All (IsReady files) read → IfOk result (IsProduct (EachGives files (map work_job read)))) → IfOk result (IsProduct (JobsGive files jobs))
-all_told files jobs works read result listed same ready told =
-    let there = all_there files works ready in
-    let found : inputs_in files (flat_map (λ job. job.caches) jobs) ≡ Ok there.0 = ap (λ all. inputs_in files (flat_map (λ (job : Job). job.caches) all)) (sym same) ∙ there.1 in
-    let jobs_are : map work_job read ≡ jobs = ap (map work_job) listed ∙ same in
-    subst (λ found. IfOk result (IsProduct (WithInputs found (λ inputs. EachGives files jobs)))) (sym found)
-    (subst (λ all. IfOk result (IsProduct (EachGives files all))) jobs_are (told (subst (All (IsReady files)) (sym listed) ready)))
+-- none is left at the end
+pub no_job : (jobs : List Read) (i : ℕ) → length jobs ≤ i → jobs_of (drop i jobs) ≡ []
+no_job jobs i high = ap jobs_of (drop_all i jobs high)
 
 -- something was accepted, and the rest is made
 pub made_next : {X E : Type 0} (refuses : List ℕ → List ℕ → Type 0) (accepts : X → Type 0) (follows : X → Outcome → Type 0) (x : X) → accepts x → (result : Result Output E) → IfOk result (IsProduct (follows x)) → IfOk result (IsProduct (Judged refuses accepts follows))
 made_next refuses accepts follows x accepted (Ok output) rest = product_next refuses accepts follows x accepted output rest
 made_next refuses accepts follows x accepted (Err e) rest = tt
 
--- what is said of a container, a directory and inputs is said of equal ones
-pub handed : (P : List ℕ → List ℕ → List Input → Type 0) (container other dir folder : List ℕ) (inputs more : List Input) → container ≡ other → dir ≡ folder → inputs ≡ more → P container dir inputs → P other folder more
-handed P container other dir folder inputs more named placed listed holds =
-    subst (λ c. P c folder more) named (subst (λ d. P container d more) placed (subst (λ i. P container dir i) listed holds))
+-- what a container, a directory and caches give is what a job of equal ones gives
+pub handed : (files loop : Files) (job : Read) (container dir : List ℕ) (caches : List (String Global)) (next : Output) → loop ≡ files → container ≡ job.container → dir ≡ string_bytes job.dir → caches ≡ job.caches.items
+    → IsProduct (CreateStorageGives container dir (map string_bytes caches) loop) next → IsProduct (JobGives files (job_of job)) next
+handed files loop job container dir caches next same named placed listed product =
+    subst (λ (c : List ℕ). IsProduct (CreateStorageGives c (string_bytes job.dir) (map string_bytes job.caches.items) files) next) named
+    (subst (λ (d : List ℕ). IsProduct (CreateStorageGives container d (map string_bytes job.caches.items) files) next) placed
+    (subst (λ (names : List (String Global)). IsProduct (CreateStorageGives container dir (map string_bytes names) files) next) listed
+    (subst (λ (files : Files). IsProduct (CreateStorageGives container dir (map string_bytes caches) files) next) same product)))
 
 -- ---- names
 

@@ -1,5 +1,5 @@
 -- The words of a job's line, cut apart and joined.
-use Rattle.std.proofs.Common.{◌≡◌, ℕ, zero, suc, ◌+◌, ◌<◌, Bool, true, false, List, [], ◌∷◌, ◌++◌, length, map, get_or, refl, sym, ◌∙◌, ap, subst, arith, All, Option, None, Some, string_bytes, append_assoc, Global}
+use Rattle.std.proofs.Common.{◌≡◌, ℕ, zero, suc, ◌<◌, Bool, true, false, List, [], ◌∷◌, ◌++◌, length, map, refl, sym, ◌∙◌, ap, subst, arith, All, Option, string_bytes, append_assoc, Global}
 use Rattle.std.specs.Prelude.{Any, Contains, IfOk, Result, Ok, Err, String, option_map}
 use Rattle.std.specs.List.{join_with_byte, list_any, slice_split, onto_first, AllByRecursion, position_or_len, before_first, after_first}
 use Rattle.std.specs.Str.{IsUtf8, bytes_eq}

@@ -1,5 +1,5 @@
 -- What is judged has one outcome, and some outcome.
-use Rattle.std.proofs.Common.{◌≡◌, ℕ, List, [], ◌∷◌, refl, sym, ◌∙◌, ap, subst, inl, inr, ◌⊎◌}
+use Rattle.std.proofs.Common.{◌≡◌, ℕ, List, [], ◌∷◌, refl, sym, ◌∙◌, subst, inl, inr}
 use Rattle.std.specs.Prelude.{Result, Ok, Err, codes}
 use Rattle.acfg_top.specs.Inputs.{Given, Judged, WithInputs, AreAccepted, FirstRefused}
 use Rattle.acfg_top.specs.Outcome.{Outcome, Refused}

@@ -18,6 +18,7 @@ pub mod OneOutcome
 pub mod Packages
 pub mod Putting
 pub mod Reading
+pub mod Replaying
 pub mod SomeOutcome
 pub mod Storing
 pub mod Strangers

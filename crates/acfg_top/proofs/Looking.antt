@@ -2,6 +2,7 @@
 use Rattle.std.proofs.Common.{◌≡◌, [], refl, sym, ◌∙◌, ap, subst, inl}
 use Rattle.std.proofs.lemmas.List.{append-nil}
 use Rattle.std.specs.Prelude.{Result, Ok, Err, OnErr}
+use Rattle.acfg_device.specs.Account.{Account}
 use Rattle.acfg_device.specs.Only.{OnlyReads}
 use Rattle.acfg_device.specs.Panel.{Files}
 use Rattle.acfg_device.specs.declared.panel.Panel.{Ghosts}
@@ -14,6 +15,7 @@ use Rattle.acfg_top.specs.declared.output.Output.{Output}
 use Rattle.acfg_top.specs.declared.told.Halt.{Halt}
 use Rattle.acfg_top.specs.declared.told.Halt.TheVariants as halt
 use Rattle.acfg_top.specs.declared.told.Told.{Told}
+use Rattle.acfg_top.proofs.Telling.{named_spares}
 
 -- nothing was said and no file was written, so that any outcome is broken off
 looked_broken : {P : Type 0} (panel : Ghosts P) {before after : P} {looks : Type 0} → OnlyReads panel before after looks → (outcome : Outcome) → IsBroken panel outcome before after
@@ -21,6 +23,10 @@ looked_broken panel {before} reads outcome = record {
   said = ([], said_for outcome, refl, reads.said ∙ sym (append-nil (panel.said before)));
   files = λ name apart. ap (λ (f : Files). f name) reads.files;
   order = inl reads.said;
+  spared = named_spares outcome (record {
+    names = ap (λ (a : Account). a.now.names) reads.account;
+    pending = ap (λ (a : Account). a.now.pending) reads.account;
+  });
 }
 
 pub look_breaks : {P : Type 0} (panel : Ghosts P) {before after : P} {looks : Type 0} → OnlyReads panel before after looks → (gives : Outcome → Type 0) → (result : Result Ending Stop)

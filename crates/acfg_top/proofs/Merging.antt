@@ -1,5 +1,5 @@
 -- The flags of a cache that is read are in order.
-use Rattle.std.proofs.Common.{◌≡◌, ℕ, ◌+◌, List, [], ◌∷◌, ◌++◌, length, map, refl, sym, subst, append_assoc, arith}
+use Rattle.std.proofs.Common.{ℕ, List, [], ◌∷◌, ◌++◌, length, map, sym, subst, append_assoc, arith}
 use Rattle.std.specs.Prelude.{All}
 use Rattle.std.specs.List.{AllByRecursion, last_or}
 use Rattle.std.specs.Prelude.{None}
@@ -9,7 +9,7 @@ use Rattle.acfg_decls.specs.declared.flags.Flag.{Flag}
 use Rattle.acfg_decls.specs.Flags.{AreFlags, IsLawful}
 use Rattle.acfg_cache.specs.Bodies.{Rise}
 use Rattle.acfg_cache.specs.Counted.{counting}
-use Rattle.acfg_cache.specs.Parts.{opened, parts_of}
+use Rattle.acfg_cache.specs.Parts.{opened}
 use Rattle.acfg_cache.specs.Reading.{Holds, Reads, Test, fields_of_flag, fields_tests, flag_in, flag_tests, flags_tests, made_tests, messages, order_tests, wire_tests}
 use Rattle.acfg_cache.proofs.MadeFlags.{lawful_made}
 use Rattle.acfg_cache.proofs.Orders.{are_flags, rise_more}

@@ -1,10 +1,9 @@
 -- Lines are jobs, or one of them is the first bad line: never both, never in two ways, and it can't be neither.
-use Rattle.std.proofs.Common.{◌≡◌, ◌≢◌, ℕ, zero, suc, ◌+◌, ◌<◌, ◌≤◌, List, [], ◌∷◌, ◌++◌, length, map, get_or, refl, sym, ◌∙◌, ap, subst, inl, inr, ◌⊎◌, ⊎_elim, arith}
+use Rattle.std.proofs.Common.{◌≡◌, ◌≢◌, ℕ, zero, suc, ◌+◌, ◌<◌, ◌≤◌, List, [], ◌∷◌, ◌++◌, length, map, get_or, refl, sym, ◌∙◌, ap, subst, inl, inr, ◌⊎◌, arith}
 use Rattle.std.specs.Prelude.{AllPairs, Contains}
 use Rattle.std.specs.List.{AllZip}
 use Rattle.std.proofs.lemmas.List.{get_or-map, length-append, length-map}
 use Rattle.std.proofs.lemmas.Bool.{cases_lt}
-use Rattle.acfg_top.specs.JobBodies.{IsGoodBehind}
 use Rattle.acfg_top.specs.JobList.{AreJobs, IsBadBehind, IsFirstBadLine, IsJob, Job, job_words, most_jobs}
 use Rattle.acfg_top.proofs.JobLines.{Reads, reads_all, reads_bad, reads_first, reads_more}
 use Rattle.acfg_top.proofs.JobWords.{words_from_job}

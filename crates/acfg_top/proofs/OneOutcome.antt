@@ -1,5 +1,5 @@
 -- Words and files have one outcome.
-use Rattle.std.proofs.Common.{◌≡◌, ℕ, List, [], map, Bool, true, false, refl, sym, ◌∙◌, ap, subst, inl, inr, ◌⊎◌}
+use Rattle.std.proofs.Common.{◌≡◌, ℕ, List, [], Bool, true, false, refl, sym, ◌∙◌, ap, subst, inl, inr, ◌⊎◌}
 use Rattle.std.specs.Prelude.{Option, None, Some}
 use Rattle.std.specs.List.{flat_map}
 use Rattle.std.specs.Bool.{Decides}
@@ -16,7 +16,7 @@ use Rattle.acfg_decls.specs.Compile.{CompilesOwn, FailsOwn}
 use Rattle.acfg_decls.specs.Reading.{Declares}
 use Rattle.acfg_decls.proofs.OneAnswer.{own_apart, own_fails_unique, own_unique}
 use Rattle.acfg_decls.proofs.Unique.{declares_unique, passes_apart, refuses_unique}
-use Rattle.acfg_top.specs.Words.{Command, Flags, Rehearse, Query, Dump, CreateCache, CreateStorage, CreateAll, Asks}
+use Rattle.acfg_top.specs.Words.{Command, Flags, Rehearse, Replay, Query, Dump, CreateCache, CreateStorage, CreateAll, Asks}
 use Rattle.acfg_top.specs.Commands.{CommandGives, Gives}
 use Rattle.acfg_top.specs.Flags.{FileFails, FlagsGives, fault_words, flag_line}
 use Rattle.acfg_top.specs.Outcome.{Outcome, Refused, Done}
@@ -25,6 +25,7 @@ use Rattle.acfg_top.proofs.Asking.{asks_unique}
 use Rattle.acfg_top.proofs.Creating.{create_cache_unique}
 use Rattle.acfg_top.proofs.Dumping.{dump_gives_unique}
 use Rattle.acfg_top.proofs.JobOutcome.{create_all_unique}
+use Rattle.acfg_top.proofs.Replaying.{replay_gives_unique}
 use Rattle.acfg_top.proofs.Storing.{create_storage_unique}
 
 -- a fact that a test decides holds or fails
@@ -70,6 +71,7 @@ rehearse_gives_unique script files (Some bytes) a b (text, transcript, is) (othe
 pub command_gives_unique : (command : Command) (files : Files) (a b : Outcome) → CommandGives command files a → CommandGives command files b → a ≡ b
 command_gives_unique (Flags file) files a b gives also = flags_gives_unique file (files file) a b gives also
 command_gives_unique (Rehearse script) files a b gives also = rehearse_gives_unique script files (files script) a b gives also
+command_gives_unique (Replay script dir) files a b gives also = replay_gives_unique script dir files (files script) a b gives also
 command_gives_unique (Query dir name flag) files a b gives also = gives ∙ sym also
 command_gives_unique (Dump format filter names) files a b gives also = dump_gives_unique format filter names files a b gives also
 command_gives_unique (CreateCache name container out names) files a b gives also = create_cache_unique name container out names files a b gives also

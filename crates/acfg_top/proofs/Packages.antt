@@ -1,5 +1,7 @@
 -- Packages counted one by one: those that weren't seen before.
 use Rattle.std.proofs.Common.{◌≡◌, ℕ, ◌+◌, Bool, true, false, cond, not, List, [], ◌∷◌, length, filter, refl, sym, ap, ◌∙◌, arith, Ordering}
+use Rattle.std.proofs.Common.{subst, Option, Some, None, true≢false}
+use Rattle.std.specs.Prelude.{IfSome, option_map, unwrap_or}
 use Rattle.std.specs.Borrow.{Bor}
 use Rattle.std.specs.BTreeMap.{is_at}
 use Rattle.std.specs.BTreeSet.{BTreeSet, contains}
@@ -8,6 +10,7 @@ use Rattle.std.specs.Ordering.{nat_cmp}
 use Rattle.std.specs.Str.{bytes_eq}
 use Rattle.std.proofs.lemmas.Cmp.{nat_list_eq_equiv}
 use Rattle.std.proofs.lemmas.Map.Text.{is_eq-slice_cmp}
+use Rattle.std.proofs.lemmas.Slice.Eq.{bytes_eq-Decides}
 use Rattle.acfg_images.specs.Image.{first_seen}
 
 -- the order of texts
@@ -65,3 +68,38 @@ counted_on old new key added old_count new_count total all rest more is grows sh
   where
     sums : (old_count new_count total one left rest : ℕ) → new_count ≡ old_count + one → left ≡ one + rest → old_count + left ≡ total → new_count + rest ≡ total
     sums old_count new_count total one left rest grows step before = omega (arith, grows, step, before)
+
+-- a text that is the last one was seen, as the last one was
+pub seen_last : (set : BTreeSet (Bor (List ℕ))) (last : Option (Bor (List ℕ))) (text : List ℕ)
+    → unwrap_or (option_map (λ (last : Bor (List ℕ)). bytes_eq last.now text) last) false ≡ true
+    → IfSome last (λ last. has set last.now ≡ true) → has set text ≡ true
+seen_last set (Some last) text same seen = subst (λ t. has set t ≡ true) ((bytes_eq-Decides last.now text).0 same) seen
+seen_last set None text same seen = absurd (true≢false (sym same))
+
+-- one that was added is seen
+pub seen_added : (old new : BTreeSet (Bor (List ℕ))) (key : Bor (List ℕ))
+    → ((other : Bor (List ℕ)) → contains texts_cmp new other ≡ cond (is_at (texts_cmp key) other) true (contains texts_cmp old other))
+    → has new key.now ≡ true
+seen_added old new key more =
+    more (record { ref_ptr = (0, 0); now = key.now }) ∙ ap (λ b. cond b true (has old key.now)) (is_eq-slice_cmp key.now key.now ∙ nat_list_eq_equiv.refl key.now)
+
+-- one that was seen counts no more
+pub counted_again : (set : BTreeSet (Bor (List ℕ))) (text : List ℕ) (count total : ℕ) (all rest : List (List ℕ))
+    → has set text ≡ true → all ≡ text ∷ rest
+    → count + length (filter (λ text. not (has set text)) (first_seen all)) ≡ total
+    → count + length (filter (λ text. not (has set text)) (first_seen rest)) ≡ total
+counted_again set text count total all rest seen shows before =
+    let left : length (filter (λ text. not (has set text)) (first_seen all)) ≡ cond (not (has set text)) 1 0 + length (filter (λ text. not (has set text)) (first_seen rest)) =
+    ap (λ (all : List (List ℕ)). length (filter (λ text. not (has set text)) (first_seen all))) shows ∙ count_more (has set) (has set) text again rest in
+    none (has set text) seen _ _ left before
+  where
+    by : (other : List ℕ) (same : Bool) → bytes_eq text other ≡ same → has set other ≡ cond same true (has set other)
+    by other true same = subst (λ t. has set t ≡ true) ((bytes_eq-Decides text other).0 same) seen
+    by other false same = refl
+
+    again : (other : List ℕ) → has set other ≡ cond (bytes_eq text other) true (has set other)
+    again other = by other (bytes_eq text other) refl
+
+    none : (b : Bool) → b ≡ true → (left more : ℕ) → left ≡ cond (not b) 1 0 + more → count + left ≡ total → count + more ≡ total
+    none true is left more shows before = omega (arith, shows, before)
+    none false is left more shows before = absurd (true≢false (sym is))

@@ -1,6 +1,6 @@
 -- Words and files have an outcome.
-use Rattle.std.proofs.Common.{◌≡◌, ℕ, List, [], ◌∷◌, refl, sym, subst, inl, inr, ⊎_elim}
-use Rattle.std.specs.Prelude.{Option, None, Some, MatchOption, codes}
+use Rattle.std.proofs.Common.{◌≡◌, ℕ, List, [], ◌∷◌, refl, sym, subst, inl, inr, ⊎_elim, codes}
+use Rattle.std.specs.Prelude.{Option, None, Some, MatchOption}
 use Rattle.std.specs.List.{flat_map}
 use Rattle.std.specs.FinMap.{empty}
 use Rattle.acfg_decls.specs.declared.declared.DeclarationsFile.{DeclarationsFile}
@@ -14,13 +14,21 @@ use Rattle.acfg_decls.proofs.Exists.{compiles_or_fails}
 use Rattle.acfg_decls.proofs.Unique.{read_or_refused}
 use Rattle.acfg_device.specs.Panel.{Files}
 use Rattle.acfg_daemon.specs.Lines.{lines}
-use Rattle.acfg_daemon.proofs.SomeTranscript.{some_transcript, Some_}
+use Rattle.acfg_daemon.proofs.OneLine.{transcript_runs}
+use Rattle.acfg_daemon.proofs.SomeTranscript.{some_run, some_transcript, Some_}
+use Rattle.acfg_daemon.specs.Replayed.{ImageLoads}
+use Rattle.acfg_model.specs.State.{State}
+use Rattle.acfg_store.specs.Damage.{HoldBytes}
+use Rattle.acfg_store.specs.Loading.{image_load}
+use Rattle.acfg_store.specs.Stands.{Stands}
+use Rattle.acfg_store.proofs.Faultless.{some_damage}
 use Rattle.acfg_top.specs.Commands.{CommandGives, Gives}
 use Rattle.acfg_top.specs.Flags.{FlagsGives, fault_words, flag_line}
-use Rattle.acfg_top.specs.Outcome.{Outcome, Usage, Refused, Done}
+use Rattle.acfg_top.specs.Outcome.{Outcome, Usage, Refused, Damaged, Done, Replayed}
 use Rattle.acfg_top.specs.Rehearsal.{RehearseGives}
+use Rattle.acfg_top.specs.Replay.{ReplayGives}
 use Rattle.acfg_top.specs.Query.{judged, set_in}
-use Rattle.acfg_top.specs.Words.{Command, Flags, Rehearse, Query, Dump, CreateCache, CreateStorage, CreateAll}
+use Rattle.acfg_top.specs.Words.{Asks, Command, Flags, Rehearse, Replay, Query, Dump, CreateCache, CreateStorage, CreateAll}
 use Rattle.acfg_top.proofs.Creating.{some_create_cache}
 use Rattle.acfg_top.proofs.Dumping.{some_dump}
 use Rattle.acfg_top.proofs.JobOutcome.{some_create_all}
@@ -60,15 +68,41 @@ some_rehearsal : (script : List ℕ) (files : Files) (found : Option (List ℕ))
 some_rehearsal script files None none = none (Refused script (codes "missing"), refl)
 some_rehearsal script files (Some bytes) none = some_transcript files empty 1 (lines bytes) (λ text. none (Done text.0 [], (text.0, text.1, refl)))
 
-some_command : (command : Command) (files : Files) → Some_ ((outcome : Outcome) × CommandGives command files outcome)
-some_command (Flags file) files none = some_flags file (files file) none
-some_command (Rehearse script) files none = some_rehearsal script files (files script) none
-some_command (Query dir name flag) files none = none (judged dir name flag (set_in dir files), refl)
-some_command (Dump format filter names) files none = some_dump format filter names files (λ outcome given. none (outcome, given))
-some_command (CreateCache name container out names) files none = some_create_cache name container out names files (λ outcome given. none (outcome, given))
-some_command (CreateStorage container dir names) files none = some_create_storage container dir names files (λ outcome given. none (outcome, given))
-some_command (CreateAll list) files none = some_create_all list files (λ outcome given. none (outcome, given))
+-- a script leads somewhere from the state for which files stand
+some_played : (script dir : List ℕ) (files : Files) (bytes : List ℕ) (state : State) → Stands files dir state → Some_ ((outcome : Outcome) × ReplayGives script dir files (Some bytes) outcome)
+some_played script dir files bytes state stands none =
+    some_run (ImageLoads files) (λ request found. found (image_load files request, refl)) state 1 (lines bytes) (λ found.
+    let runs = transcript_runs (ImageLoads files) state 1 (lines bytes) found.0 found.1 in
+    none (Replayed dir found.0 runs.0, inr (state, runs.0, found.0, stands, runs.1, refl)))
 
-pub some_outcome : (words : List (List ℕ)) (files : Files) → Some_ ((outcome : Outcome) × Gives words files outcome)
-some_outcome words files none =
-    none (Usage, inr (λ command asks. some_command command files (λ found. none (found.0, inl (command, asks, found.1))), refl))
+some_replay : (script dir : List ℕ) (files : Files) → HoldBytes files → (found : Option (List ℕ)) → Some_ ((outcome : Outcome) × ReplayGives script dir files found outcome)
+some_replay script dir files hold None none = none (Refused script (codes "missing"), refl)
+some_replay script dir files hold (Some bytes) none =
+    some_damage files hold dir
+    (λ state stands. some_played script dir files bytes state stands none)
+    (λ file damaged. none (Damaged file, inl (file, damaged, refl)))
+
+-- of a replay this is said of files of bytes
+abbrev NeedsBytes : Command → Files → Type 0
+NeedsBytes command files = (script dir : List ℕ) → command ≡ Replay script dir → HoldBytes files
+
+some_command : (command : Command) (files : Files) → NeedsBytes command files → Some_ ((outcome : Outcome) × CommandGives command files outcome)
+some_command (Flags file) files hold none = some_flags file (files file) none
+some_command (Replay script dir) files hold none = some_replay script dir files (hold script dir refl) (files script) none
+some_command (Rehearse script) files hold none = some_rehearsal script files (files script) none
+some_command (Query dir name flag) files hold none = none (judged dir name flag (set_in dir files), refl)
+some_command (Dump format filter names) files hold none = some_dump format filter names files (λ outcome given. none (outcome, given))
+some_command (CreateCache name container out names) files hold none = some_create_cache name container out names files (λ outcome given. none (outcome, given))
+some_command (CreateStorage container dir names) files hold none = some_create_storage container dir names files (λ outcome given. none (outcome, given))
+some_command (CreateAll list) files hold none = some_create_all list files (λ outcome given. none (outcome, given))
+
+pub some_outcome : (words : List (List ℕ)) (files : Files) → ((script dir : List ℕ) → Asks words (Replay script dir) → HoldBytes files) → Some_ ((outcome : Outcome) × Gives words files outcome)
+some_outcome words files hold none =
+    none (
+      Usage,
+      inr (
+        λ command asks.
+            some_command command files (λ script dir is. hold script dir (subst (Asks words) is asks)) (λ found. none (found.0, inl (command, asks, found.1))),
+        refl,
+      ),
+    )

@@ -1,5 +1,5 @@
 -- The first flag of another container: where there is one, it is one, and none stands where all are the container's.
-use Rattle.std.proofs.Common.{◌≡◌, ℕ, suc, ◌<◌, ◌⊎◌, Bool, true, false, not, List, [], ◌∷◌, length, take, slice_get, Some, refl, sym, subst, ◌∙◌, arith, inl, inr, ⊎_elim, true≢false}
+use Rattle.std.proofs.Common.{◌≡◌, ℕ, suc, ◌<◌, Bool, true, false, not, List, [], ◌∷◌, take, slice_get, Some, refl, sym, subst, ◌∙◌, arith, ⊎_elim, true≢false}
 use Rattle.std.specs.Bool.{Decides}
 use Rattle.std.specs.Prelude.{All}
 use Rattle.std.specs.Str.{bytes_eq}

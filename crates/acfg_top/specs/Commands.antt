@@ -10,12 +10,16 @@ use Rattle.acfg_top.specs.Dump.{DumpGives}
 use Rattle.acfg_top.specs.Flags.{FlagsGives}
 use Rattle.acfg_top.specs.Outcome.{OnlyWrites, Outcome, Usage}
 use Rattle.acfg_top.specs.Query.{QueryGives}
+use Rattle.acfg_store.specs.Names.{IsOfDirectory}
 use Rattle.acfg_top.specs.Rehearsal.{RehearseGives}
-use Rattle.acfg_top.specs.Words.{Command, Flags, Rehearse, Query, Dump, CreateCache, CreateStorage, CreateAll, Asks}
+use Rattle.acfg_top.specs.Replay.{ReplayGives}
+use Rattle.acfg_top.specs.Words.{Command, Flags, Rehearse, Replay, Query, Dump, CreateCache, CreateStorage}
+use Rattle.acfg_top.specs.Words.{CreateAll, Asks}
 
 abbrev pub CommandGives : Command → Files → Outcome → Type 0
 CommandGives (Flags file) files outcome = FlagsGives file (files file) outcome
 CommandGives (Rehearse script) files outcome = RehearseGives script files (files script) outcome
+CommandGives (Replay script dir) files outcome = ReplayGives script dir files (files script) outcome
 CommandGives (Query dir name flag) files outcome = QueryGives dir name flag files outcome
 CommandGives (Dump format filter names) files outcome = DumpGives format filter names files outcome
 CommandGives (CreateCache name container out names) files outcome =
@@ -33,6 +37,7 @@ Gives words files outcome =
 abbrev pub Only : {P : Type 0} → Ghosts P → Command → P → P → Type 0 → Type 0
 Only panel (Flags file) before after fails = OnlySays panel before after fails
 Only panel (Rehearse script) before after fails = OnlySays panel before after fails
+Only panel (Replay script dir) before after fails = OnlyWrites panel (IsOfDirectory dir) before after fails
 Only panel (Query dir name flag) before after fails = OnlySays panel before after fails
 Only panel (Dump format filter names) before after fails = OnlySays panel before after fails
 Only panel (CreateCache name container out names) before after fails =

@@ -1,14 +1,11 @@
 -- Words of private bodies on lists of jobs. No public clause cites them.
-use Rattle.std.specs.Prelude.{◌≡◌, ◌<◌, ℕ, List, All, Contains, Option, MatchOption, Ok, Err, length, map, string_bytes}
+use Rattle.std.specs.Prelude.{◌≡◌, ◌<◌, ℕ, List, All, Contains, Option, MatchOption, length, map, string_bytes}
 use Rattle.std.specs.List.{flat_map}
 use Rattle.acfg_base.specs.Names.{IsContainer}
 use Rattle.acfg_base.specs.Paths.{IsPath}
-use Rattle.acfg_device.specs.Panel.{Files}
-use Rattle.acfg_top.specs.Bodies.{inputs_of, writes_in}
+use Rattle.acfg_top.specs.Bodies.{writes_in}
 use Rattle.acfg_top.specs.CreateAll.{Stored}
-use Rattle.acfg_top.specs.Inputs.{inputs_in}
 use Rattle.acfg_top.specs.JobList.{AreJobs, IsBadBehind, IsFirstBadLine, IsJob, Job, job_words, most_jobs}
-use Rattle.acfg_top.specs.declared.create_all as made
 use Rattle.acfg_top.specs.declared.ending.Ending.TheVariants as end
 use Rattle.acfg_top.specs.declared.jobs as listed
 use Rattle.acfg_top.specs.declared.output.Output.{Output}
@@ -46,22 +43,6 @@ IsNext jobs line found = MatchOption found (IsBadBehind jobs line) (λ job. IsGo
 abbrev pub IsListed : List (List ℕ) → listed.Listed.Listed → Type 0
 IsListed lines (listed.Listed.TheVariants.Jobs jobs) = AreJobs lines (jobs_of jobs.items)
 IsListed lines (listed.Listed.TheVariants.BadLine number) = IsFirstBadLine lines number
-
--- ---- jobs whose caches were read
-
-abbrev pub work_job : made.Work.Work → Job
-work_job work = job_of work.job.now
-
--- the caches that were read are those of the job
-abbrev pub IsReady : Files → made.Work.Work → Type 0
-IsReady files work = inputs_in files (work_job work).caches ≡ Ok (inputs_of work.inputs.items)
-
--- the caches of all these jobs were read, or this is the name of the first that isn't there
-abbrev pub AreRead : Files → List Job → made.Works.Works → Type 0
-AreRead files jobs (made.Works.TheVariants.All works) =
-    (map work_job works.items ≡ jobs) × All (IsReady files) works.items
-AreRead files jobs (made.Works.TheVariants.Missing name) =
-    inputs_in files (flat_map (λ job. job.caches) jobs) ≡ Err name.now
 
 -- what is to be written and told so far is that of jobs that are stored
 pub record IsOfStored (all : List Stored) (output : Output) : Type 0 where

@@ -1,5 +1,5 @@
 -- The list of `create-all`: each of its lines is a job, or one of them is the first bad line.
-use Rattle.std.specs.Prelude.{◌≡◌, ◌≢◌, ◌<◌, ◌≤◌, ◌+◌, ◌⊎◌, ℕ, List, [], ◌∷◌, ◌++◌, All, AllPairs, Contains}
+use Rattle.std.specs.Prelude.{◌≡◌, ◌≢◌, ◌<◌, ◌≤◌, ◌+◌, ◌⊎◌, ℕ, List, ◌∷◌, ◌++◌, All, AllPairs, Contains}
 use Rattle.std.specs.Prelude.{length, map}
 use Rattle.std.specs.List.{AllZip, join_with_byte}
 use Rattle.acfg_base.specs.Bytes.{space}

@@ -12,4 +12,5 @@ pub mod JobList
 pub mod Outcome
 pub mod Query
 pub mod Rehearsal
+pub mod Replay
 pub mod Words

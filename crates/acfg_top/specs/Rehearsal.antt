@@ -3,6 +3,7 @@ use Rattle.std.specs.Prelude.{◌≡◌, ℕ, List, [], Option, None, Some, code
 use Rattle.std.specs.FinMap.{empty}
 use Rattle.acfg_device.specs.Panel.{Files}
 use Rattle.acfg_daemon.specs.Lines.{lines}
+use Rattle.acfg_daemon.specs.Sources.{Loads}
 use Rattle.acfg_daemon.specs.Transcript.{Transcript}
 use Rattle.acfg_top.specs.Outcome.{Outcome, Refused, Done}
 
@@ -10,4 +11,4 @@ use Rattle.acfg_top.specs.Outcome.{Outcome, Refused, Done}
 abbrev pub RehearseGives : List ℕ → Files → Option (List ℕ) → Outcome → Type 0
 RehearseGives script files None outcome = outcome ≡ Refused script (codes "missing")
 RehearseGives script files (Some bytes) outcome =
-    (text : List ℕ) × Transcript files empty 1 (lines bytes) text × (outcome ≡ Done text [])
+    (text : List ℕ) × Transcript (Loads files) empty 1 (lines bytes) text × (outcome ≡ Done text [])

@@ -27,6 +27,8 @@ pub data Command : Type 0 where
   Flags : List ℕ → Command
   -- `rehearse SCRIPT`
   Rehearse : List ℕ → Command
+  -- `replay SCRIPT DIR`
+  Replay : List ℕ → List ℕ → Command
   -- `query DIR P F`
   Query : List ℕ → List ℕ → List ℕ → Command
   -- `dump FORMAT FILTER FILE..`
@@ -41,6 +43,8 @@ pub data Command : Type 0 where
 abbrev pub Asks : List (List ℕ) → Command → Type 0
 Asks words (Flags file) = (words ≡ codes "flags" ∷ file ∷ []) × IsPathWord file
 Asks words (Rehearse script) = (words ≡ codes "rehearse" ∷ script ∷ []) × IsPathWord script
+Asks words (Replay script dir) =
+    (words ≡ codes "replay" ∷ script ∷ dir ∷ []) × IsPathWord script × IsPathWord dir
 Asks words (Query dir name flag) =
     (words ≡ codes "query" ∷ dir ∷ name ∷ flag ∷ []) × IsPathWord dir × IsPackage name × IsName flag
 Asks words (Dump format filter files) =

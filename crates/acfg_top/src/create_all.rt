@@ -1,19 +1,20 @@
 //! `create-all LIST`: the image sets of several containers, each of them a job of a list.
 
-ghost use Rattle.std.specs.Prelude.{◌≡◌, ◌++◌, Some, IsTrue, IfOk, IfErr, OnErr, OnOk, All, map};
+ghost use Rattle.std.specs.Prelude.{◌≡◌, ◌++◌, Some, IsTrue, IfOk, OnErr, OnOk, option_map};
+ghost use Rattle.std.specs.List.{flat_map};
 ghost use Rattle.acfg_device.specs.Only.{OnlyReads};
-ghost use Rattle.acfg_device.specs.Panel.{Files};
-ghost use Rattle.acfg_top.specs.Bodies.{AreAmong, Comes, IfRefused, IsProduct};
+ghost use Rattle.acfg_top.specs.Bodies.{AreAmong, Comes, IsProduct, missing_of};
 ghost use Rattle.acfg_top.specs.CreateAll.{CreateAllGives, EachGives, IsStorageFile, JobsGive, ListGives};
-ghost use Rattle.acfg_top.specs.JobBodies.{AreRead, IsReady, jobs_of, work_job};
-ghost use Rattle.acfg_top.specs.Outcome.{Outcome, IsBroken, OnlyWrites, Refused};
+ghost use Rattle.acfg_top.specs.Inputs.{inputs_in};
+ghost use Rattle.acfg_top.specs.JobBodies.{jobs_of};
+ghost use Rattle.acfg_top.specs.Outcome.{Outcome, IsBroken, OnlyWrites};
 
-use crate::create_storage::store_inputs;
+use crate::create_storage::store_caches;
 use crate::ending::{Ending, Stop};
-use crate::inputs::{Found, Input, read_inputs};
+use crate::inputs::first_missing;
 use crate::jobs::{Job, Listed, read_jobs};
 use crate::output::{Output, only_told, put_out};
-use crate::told::{Halt, Refusal, Told, refused};
+use crate::told::{Refusal, Told, refused};
 use acfg_device::{Device, Panel};
 use std::alloc::{AllocError, Global};
 
@@ -59,72 +60,43 @@ fn judged<P: Panel>(alloc: Global, list: &str, bytes: &[u8], panel: &mut P) -> R
     }
 }
 
-// What there is to write and to tell of jobs.
+// What there is to write and to tell of jobs. The caches of all of them are looked for before any is judged.
 fn worked<P: Panel>(alloc: Global, jobs: &[Job], panel: &mut P) -> Result<Output, Stop>
     ensures told { IsTrue P.tells → IfOk result (IsProduct (JobsGive (P.files panel.old) (jobs_of jobs.now))) }
     ensures names { IfOk result (AreAmong IsStorageFile) }
     ensures reads { OnlyReads P.Panel panel.old panel.new (result ≡ Err Stop.Failed) }
 {
-    match read_works(alloc, jobs, panel)? {
-        Works::All(works) => stored(alloc, &works),
-        Works::Missing(name) => Ok(only_told(alloc, refused(alloc, name, Refusal::Missing)?)),
+    match missing_cache(alloc, jobs, panel)? {
+        None => stored(alloc, jobs, panel),
+        Some(name) => Ok(only_told(alloc, refused(alloc, name, Refusal::Missing)?)),
     }
 }
 
-// A job, and its caches as they were read.
-#[derive(Debug, Drop)]
-struct Work<'a> {
-    job: &'a Job,
-    inputs: Vec<Input<'a>>,
-}
-
-// Jobs whose caches were read, or the first cache that isn't there.
-#[derive(Debug, Drop)]
-enum Works<'a> {
-    All(Vec<Work<'a>>),
-    Missing(&'a str),
-}
-
-// Reads the caches of jobs, all of them before any is judged.
-fn read_works<'a, P: Panel>(
+// The first cache of jobs that isn't there. Those that are there are read again for their jobs, so that the caches of
+// one job are kept at a time.
+fn missing_cache<'a, P: Panel>(
     alloc: Global,
     jobs: &'a [Job],
     panel: &mut P,
-) -> Result<Works<'a>, Stop>
-    ensures works { IsTrue P.tells → IfOk result (AreRead (P.files panel.old) (jobs_of jobs.now)) }
+) -> Result<Option<&'a str>, Stop>
+    ensures found { IsTrue P.tells → IfOk result (λ found. option_map (λ name. name.now) found
+        ≡ missing_of (inputs_in (P.files panel.old) (flat_map (λ job. job.caches) (jobs_of jobs.now)))) }
     ensures reads { OnlyReads P.Panel panel.old panel.new (result ≡ Err Stop.Failed) }
 {
-    let mut works = Vec::new(alloc);
     for job in jobs {
-        match read_inputs(alloc, &job.caches, panel)? {
-            Found::All(inputs) => works.push(Work { job, inputs })?,
-            Found::Missing(name) => return Ok(Works::Missing(name)),
+        match first_missing(alloc, &job.caches, panel)? {
+            Some(name) => return Ok(Some(name)),
+            None => {}
         }
     }
-    Ok(Works::All(works))
+    Ok(None)
 }
 
-// What there is to write and to tell of jobs whose caches were read.
-fn stored(alloc: Global, works: &[Work<'_>]) -> Result<Output, Stop>
-    ensures told { (files : Files) → All (IsReady files) works.now
-        → IfOk result (IsProduct (EachGives files (map work_job works.now))) }
+// The image sets of jobs, and what there is to tell of them, or of the first job that is refused.
+fn stored<P: Panel>(alloc: Global, jobs: &[Job], panel: &mut P) -> Result<Output, Stop>
+    ensures told { IsTrue P.tells → IfOk result (IsProduct (EachGives (P.files panel.old) (jobs_of jobs.now))) }
     ensures names { IfOk result (AreAmong IsStorageFile) }
-    ensures err { IfErr result (λ stop. stop ≡ Stop.OutOfMemory) }
-{
-    match store_all(alloc, works) {
-        Ok(output) => Ok(output),
-        Err(Halt::Refused(told)) => Ok(only_told(alloc, told)),
-        Err(Halt::OutOfMemory) => Err(Stop::OutOfMemory),
-    }
-}
-
-// The image sets of jobs, and what there is to tell of them, or the refusal of the first job that is refused.
-fn store_all(alloc: Global, works: &[Work<'_>]) -> Result<Output, Halt>
-    ensures ok { (files : Files) → All (IsReady files) works.now
-        → IfOk result (IsProduct (EachGives files (map work_job works.now))) }
-    ensures names { IfOk result (AreAmong IsStorageFile) }
-    ensures err { (files : Files) → All (IsReady files) works.now → IfErr result
-        (IfRefused (λ file what. EachGives files (map work_job works.now) (Refused file what))) }
+    ensures reads { OnlyReads P.Panel panel.old panel.new (result ≡ Err Stop.Failed) }
 {
     let mut output = Output {
         told: Told {
@@ -133,15 +105,14 @@ fn store_all(alloc: Global, works: &[Work<'_>]) -> Result<Output, Halt>
         },
         files: Vec::new(alloc),
     };
-    for work in works {
-        let job = work.job;
-        let next = store_inputs(
-            alloc,
-            job.container.as_str(),
-            job.dir.as_str(),
-            &work.inputs,
-        )?;
-        add(&mut output, next)?;
+    for job in jobs {
+        let container = job.container.as_str();
+        let dir = job.dir.as_str();
+        let next = store_caches(alloc, container, dir, &job.caches, panel)?;
+        match next.told.ending {
+            Ending::Refused | Ending::Damaged => return Ok(next),
+            Ending::Done => add(&mut output, next)?,
+        }
     }
     Ok(output)
 }

@@ -1,23 +1,23 @@
 //! `create-storage CONTAINER DIR CACHE..`: the merged flags of caches, written as a container's image set.
 
-ghost use Rattle.std.specs.Prelude.{◌≡◌, [], Ok, IsTrue, IfOk, IfErr, MatchOption, OnErr, false, length, map};
-ghost use Rattle.std.specs.Prelude.{slice_index_or, string_bytes};
+ghost use Rattle.std.specs.Prelude.{◌≡◌, [], Ok, IsTrue, IfOk, IfErr, OnErr, false, length, map};
+ghost use Rattle.std.specs.Prelude.{option_map, slice_index_or, string_bytes, unwrap_or};
+ghost use Rattle.std.specs.Str.{bytes_eq};
 ghost use Rattle.acfg_base.specs.Names.{IsContainer};
 ghost use Rattle.acfg_cache.specs.Merging.{IsMerged};
 ghost use Rattle.acfg_device.specs.Only.{OnlyReads};
 ghost use Rattle.acfg_images.specs.Build.{built, compiled_flag};
 ghost use Rattle.acfg_images.specs.Image.{package_names};
-ghost use Rattle.acfg_top.specs.Bodies.{AreAmong, Comes, IfRefused, IsMade, IsOutputOf, IsProduct, input_of};
+ghost use Rattle.acfg_top.specs.Bodies.{AreAmong, Comes, IfRefused, IsMade, IsOutputOf, IsProduct};
 ghost use Rattle.acfg_top.specs.Bodies.{inputs_of, writes_in};
 ghost use Rattle.acfg_top.specs.Caches.{Clashing};
-ghost use Rattle.acfg_top.specs.CreateStorage.{AreOwn, CreateStorageGives, FirstStranger, FlagsStored, IsFileIn};
-ghost use Rattle.acfg_top.specs.CreateStorage.{IsNoOwnCache, IsOwnCache, StoredGives, set_writes, stored_line};
+ghost use Rattle.acfg_top.specs.CreateStorage.{CreateStorageGives, FlagsStored, IsFileIn};
+ghost use Rattle.acfg_top.specs.CreateStorage.{StoredGives, set_writes, stored_line};
 ghost use Rattle.acfg_top.specs.CreateStorage.{stored_words as words_of_stored};
-ghost use Rattle.acfg_top.specs.Inputs.{AreAccepted, FirstRefused};
 ghost use Rattle.acfg_top.specs.Outcome.{Outcome, Done, IsBroken, OnlyWrites, Refused};
 ghost use Rattle.acfg_top.specs.Query.{file_in};
 
-use crate::caches::read_cache;
+use crate::caches::read_caches;
 use crate::create_cache::container_of;
 use crate::ending::{Ending, Stop};
 use crate::inputs::{Found, Input, read_inputs};
@@ -52,42 +52,48 @@ pub fn create_storage<D: Device>(
     ensures writes { OnlyWrites D.Panel (IsFileIn asked.entry.dir.now) device.old device.new
         (result ≡ Err Stop.Failed) }
 {
-    let output = answer(alloc, asked, device)?;
+    let output = store_caches(alloc, asked.container, asked.dir, asked.caches, device)?;
     put_out(device, &output)
 }
 
-// What there is to write and to tell.
-fn answer<P: Panel>(alloc: Global, asked: StorageWords<'_>, panel: &mut P) -> Result<Output, Stop>
-    requires { IsContainer asked.container.now }
-    ensures told { IsTrue P.tells → IfOk result (IsProduct (CreateStorageGives asked.entry.container.now
-        asked.entry.dir.now (map string_bytes asked.entry.caches.now) (P.files panel.old))) }
-    ensures names { IfOk result (AreAmong (IsFileIn asked.entry.dir.now)) }
+/// The image set of caches as files in a directory that are still to be written, and what there is to tell of it; or
+/// what there is to tell of the cache or the directory that is refused.
+pub fn store_caches<P: Panel>(
+    alloc: Global,
+    container: &str,
+    dir: &str,
+    caches: &[String],
+    panel: &mut P,
+) -> Result<Output, Stop>
+    requires { IsContainer container.now }
+    ensures told { IsTrue P.tells → IfOk result (IsProduct (CreateStorageGives container.now dir.now
+        (map string_bytes caches.now) (P.files panel.old))) }
+    ensures names { IfOk result (AreAmong (IsFileIn dir.now)) }
     ensures reads { OnlyReads P.Panel panel.old panel.new (result ≡ Err Stop.Failed) }
 {
-    match read_inputs(alloc, asked.caches, panel)? {
-        Found::All(inputs) => judged(alloc, asked, &inputs),
+    match read_inputs(alloc, caches, panel)? {
+        Found::All(inputs) => judged(alloc, container, dir, &inputs),
         Found::Missing(name) => Ok(only_told(alloc, refused(alloc, name, Refusal::Missing)?)),
     }
 }
 
 // What there is to write and to tell of caches.
-fn judged(alloc: Global, asked: StorageWords<'_>, inputs: &[Input<'_>]) -> Result<Output, Stop>
-    requires { IsContainer asked.container.now }
-    ensures told { IfOk result (IsProduct (StoredGives asked.entry.container.now asked.entry.dir.now
-        (inputs_of inputs.now))) }
-    ensures names { IfOk result (AreAmong (IsFileIn asked.entry.dir.now)) }
+fn judged(alloc: Global, container: &str, dir: &str, inputs: &[Input<'_>]) -> Result<Output, Stop>
+    requires { IsContainer container.now }
+    ensures told { IfOk result (IsProduct (StoredGives container.now dir.now (inputs_of inputs.now))) }
+    ensures names { IfOk result (AreAmong (IsFileIn dir.now)) }
     ensures err { IfErr result (λ stop. stop ≡ Stop.OutOfMemory) }
 {
-    match store_inputs(alloc, asked.container, asked.dir, inputs) {
+    match store_inputs(alloc, container, dir, inputs) {
         Ok(output) => Ok(output),
         Err(Halt::Refused(told)) => Ok(only_told(alloc, told)),
         Err(Halt::OutOfMemory) => Err(Stop::OutOfMemory),
     }
 }
 
-/// The image set of caches that were read, as files in a directory that are still to be written, and what there is to
-/// tell of it; or the refusal of a cache or of the directory.
-pub fn store_inputs(
+// The image set of caches that were read, as files, and what there is to tell of it; or the refusal of a cache or of
+// the directory.
+fn store_inputs(
     alloc: Global,
     container: &str,
     dir: &str,
@@ -99,52 +105,10 @@ pub fn store_inputs(
     ensures err { IfErr result (IfRefused (λ file what. StoredGives container.now dir.now (inputs_of inputs.now)
         (Refused file what))) }
 {
-    let lists = own_caches(alloc, container, inputs)?;
+    let lists = read_caches(alloc, Some(container), inputs)?;
     let flags = merged(alloc, inputs, &lists)?;
+    drop(lists);
     store_flags(alloc, container, dir, &flags)
-}
-
-// The flags of caches, all of them the container's, or the refusal of the first other cache.
-fn own_caches(alloc: Global, container: &str, inputs: &[Input<'_>]) -> Result<Vec<Flags>, Halt>
-    ensures ok { IfOk result (λ lists. AreAccepted (IsOwnCache container.now) (IsNoOwnCache container.now)
-        (inputs_of inputs.now) lists.items) }
-    ensures err { IfErr result (IfRefused (FirstRefused (IsOwnCache container.now) (IsNoOwnCache container.now)
-        (inputs_of inputs.now))) }
-{
-    let mut lists = Vec::new(alloc);
-    for input in inputs {
-        lists.push(own_cache(alloc, container, input)?)?;
-    }
-    Ok(lists)
-}
-
-// The flags of a cache, all of them the container's, or its refusal.
-fn own_cache(alloc: Global, container: &str, input: &Input<'_>) -> Result<Flags, Halt>
-    ensures ok { IfOk result (IsOwnCache container.now (input_of input.now)) }
-    ensures err { IfErr result (IfRefused (λ file what. (file ≡ input.now.name.now)
-        × IsNoOwnCache container.now (input_of input.now) what)) }
-{
-    let flags = read_cache(alloc, input)?;
-    match first_stranger(flags.list(), container) {
-        None => Ok(flags),
-        Some(position) => Err(Halt::Refused(refused(
-            alloc,
-            input.name,
-            Refusal::Stranger(position),
-        )?)),
-    }
-}
-
-// The position of the first flag that is another container's.
-fn first_stranger(flags: &[Flag], container: &str) -> Option<usize>
-    ensures { MatchOption result (AreOwn container.now flags.now) (FirstStranger container.now flags.now) }
-{
-    for (position, flag) in flags.iter().enumerate() {
-        if flag.container.as_str() != container {
-            return Some(position);
-        }
-    }
-    None
 }
 
 // The flags of caches together, or the refusal of the first clash.
@@ -264,8 +228,24 @@ fn count_packages(alloc: Global, flags: &[Flag]) -> Result<usize, AllocError>
     ensures { IfOk result (λ count. count ≡ length (package_names (map compiled_flag flags.now))) }
 {
     let mut names = BTreeSet::new(alloc);
+    let mut last = None;
     for flag in flags {
-        names.insert(flag.package.as_str())?;
+        let name = flag.package.as_str();
+        if is_last(last, name) {
+            continue;
+        }
+        names.insert(name)?;
+        last = Some(name);
     }
     Ok(names.len())
+}
+
+// Whether a name is the one that came last: most flags are of the package of the flag before them.
+fn is_last(last: Option<&str>, name: &str) -> bool
+    ensures { result ≡ unwrap_or (option_map (λ last. bytes_eq last.now name.now) last.entry) false }
+{
+    match last {
+        Some(last) => last == name,
+        None => false,
+    }
 }

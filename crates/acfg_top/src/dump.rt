@@ -102,7 +102,7 @@ fn dumped(
         (inputs_of inputs.now))) }
     ensures err { IfErr result (λ stop. stop ≡ Stop.OutOfMemory) }
 {
-    match read_caches(alloc, inputs) {
+    match read_caches(alloc, None, inputs) {
         Ok(lists) => merged(alloc, template, filter, files, &lists),
         Err(Halt::Refused(told)) => Ok(told),
         Err(Halt::OutOfMemory) => Err(Stop::OutOfMemory),

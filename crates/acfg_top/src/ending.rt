@@ -1,5 +1,9 @@
 //! How a command ends: it told all that it had to, or was stopped.
 
+ghost use Rattle.std.specs.Prelude.{◌≡◌};
+ghost use Rattle.acfg_daemon.specs.Replayed.{IsNoDamage};
+ghost use Rattle.acfg_top.specs.Bodies.{stop_of_daemon};
+
 use acfg_base::OutOfMemory;
 use acfg_daemon::DaemonFault;
 use acfg_device::{Failed, ReadFault};
@@ -10,6 +14,8 @@ use std::alloc::{AllocError, AllocFailed};
 pub enum Ending {
     /// The refusal of an input was told.
     Refused,
+    /// The first file at fault of a device directory was told.
+    Damaged,
     /// The command's work is done, and its text was told.
     Done,
 }
@@ -81,16 +87,14 @@ impl From<ReadFault> for Stop {
     }
 }
 
-impl From<DaemonFault> for Stop {
-    ghost use Rattle.std.specs.Prelude.{◌≡◌};
-    ghost use Rattle.acfg_top.specs.Bodies.{stop_of_daemon};
-
-    ghost from_gives = { λ fault stop. stop ≡ stop_of_daemon fault };
-
-    fn from(fault: DaemonFault) -> Stop {
-        match fault {
-            DaemonFault::Device => Stop::Failed,
-            DaemonFault::OutOfMemory => Stop::OutOfMemory,
-        }
+/// Why a command ends whose script was broken off; damage is told before.
+pub fn stop_of(fault: DaemonFault) -> Stop
+    requires { IsNoDamage fault }
+    ensures { result ≡ stop_of_daemon fault }
+{
+    match fault {
+        DaemonFault::Device => Stop::Failed,
+        DaemonFault::OutOfMemory => Stop::OutOfMemory,
+        DaemonFault::Damaged(_) => unreachable!(),
     }
 }

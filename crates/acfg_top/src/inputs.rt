@@ -2,7 +2,7 @@
 
 ghost use Rattle.std.specs.Prelude.{◌≡◌, [], Ok, Some, IsTrue, IfOk, OnOk, map, option_map, string_bytes, unwrap_or};
 ghost use Rattle.acfg_device.specs.Only.{OnlyReads};
-ghost use Rattle.acfg_top.specs.Bodies.{found_of, seen_then};
+ghost use Rattle.acfg_top.specs.Bodies.{found_of, missing_of, seen_then};
 ghost use Rattle.acfg_top.specs.Inputs.{inputs_in, with_found};
 
 use crate::ending::Stop;
@@ -41,6 +41,25 @@ pub fn read_inputs<'a, P: Panel>(
         read_next(alloc, name.as_str(), panel, &mut seen)?;
     }
     Ok(all_or_missing(seen))
+}
+
+/// The first of files that isn't there. What the others hold is kept nowhere.
+pub fn first_missing<'a, P: Panel>(
+    alloc: Global,
+    names: &'a [String],
+    panel: &mut P,
+) -> Result<Option<&'a str>, Stop>
+    ensures found { IsTrue P.tells → IfOk result (λ found. option_map (λ name. name.now) found
+        ≡ missing_of (inputs_in (P.files panel.old) (map string_bytes names.now))) }
+    ensures reads { OnlyReads P.Panel panel.old panel.new (result ≡ Err Stop.Failed) }
+{
+    for name in names {
+        match panel.read(alloc, name.as_str())? {
+            Some(_) => {}
+            None => return Ok(Some(name.as_str())),
+        }
+    }
+    Ok(None)
 }
 
 // The files that were read so far, and the first that isn't there.

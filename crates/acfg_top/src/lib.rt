@@ -15,6 +15,7 @@ mod jobs;
 mod output;
 mod query;
 mod rehearsal;
+mod replay;
 mod told;
 mod top;
 mod words;

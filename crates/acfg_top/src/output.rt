@@ -40,13 +40,14 @@ pub fn put_out<D: Device>(device: &mut D, output: &Output) -> Result<Ending, Sto
         (result ≡ Err Stop.Failed) }
 {
     match output.told.ending {
-        Ending::Refused => tell(device, &output.told),
+        Ending::Refused | Ending::Damaged => tell(device, &output.told),
         Ending::Done => save_and_tell(device, output),
     }
 }
 
 // Writes the files, and then says what there is to tell.
 fn save_and_tell<D: Device>(device: &mut D, output: &Output) -> Result<Ending, Stop>
+    requires { output.now.told.ending ≡ Ending.Done }
     ensures told { IsTrue D.tells → IfOk result (λ ending. (outcome : Outcome) → IsOutputOf outcome output.now
         → IsEnding outcome ending × IsDone D.Panel outcome device.old device.new) }
     ensures broken { IsTrue D.tells → OnErr result ((outcome : Outcome) → IsOutputOf outcome output.now

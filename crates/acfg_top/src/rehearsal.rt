@@ -6,7 +6,7 @@ ghost use Rattle.acfg_top.specs.Bodies.{Comes};
 ghost use Rattle.acfg_top.specs.Outcome.{Outcome, IsBroken};
 ghost use Rattle.acfg_top.specs.Rehearsal.{RehearseGives};
 
-use crate::ending::{Ending, Stop};
+use crate::ending::{Ending, Stop, stop_of};
 use crate::told::{Refusal, refused, tell};
 use acfg_daemon::rehearse;
 use acfg_device::Panel;
@@ -45,6 +45,8 @@ fn transcribe<P: Panel>(
         → IsBroken P.Panel outcome panel.old panel.new) }
     ensures says { OnlySays P.Panel panel.old panel.new (result ≡ Err Stop.Failed) }
 {
-    rehearse(alloc, panel, bytes)?;
-    Ok(Ending::Done)
+    match rehearse(alloc, panel, bytes) {
+        Ok(()) => Ok(Ending::Done),
+        Err(fault) => Err(stop_of(fault)),
+    }
 }

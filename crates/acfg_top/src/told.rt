@@ -1,16 +1,19 @@
 //! What a command has to tell, and how it is said.
 
 ghost use Rattle.std.specs.Prelude.{◌≡◌, ◌++◌, IfErr, IfOk, IsErr, IsTrue, OnErr, OnOk};
+ghost use Rattle.acfg_device.specs.Disk.{IsSettled};
+ghost use Rattle.acfg_device.specs.Left.{LeavesSince, SaysOnly};
 ghost use Rattle.acfg_device.specs.Only.{OnlySays};
 ghost use Rattle.acfg_device.specs.Panel.{SaysPart};
 ghost use Rattle.acfg_top.specs.Bodies.{refusal_words, IsOf};
-ghost use Rattle.acfg_top.specs.Outcome.{Refused};
+ghost use Rattle.acfg_top.specs.Outcome.{Damaged, Refused};
 
 use crate::cache_words::PrintedCache;
 use crate::ending::{Ending, Stop};
 use crate::image_words::{PrintedFault, PrintedLimit};
 use acfg_base::OutOfMemory;
 use acfg_cache::CacheFault;
+use acfg_commit::say_line;
 use acfg_decls::DeclWhat;
 use acfg_device::Panel;
 use acfg_images::{BuildFault, ImageFault};
@@ -168,6 +171,17 @@ pub fn refused(alloc: Global, file: &str, refusal: Refusal<'_>) -> Result<Told, 
     })
 }
 
+/// What is to be told of a device directory whose first file at fault is this one.
+pub fn damaged(alloc: Global, file: &str) -> Result<Told, AllocError>
+    ensures { IfOk result (IsOf (Damaged file.now)) }
+{
+    let text = format!(in alloc; "damaged {file}\n")?;
+    Ok(Told {
+        ending: Ending::Damaged,
+        text: text.into_bytes(),
+    })
+}
+
 /// Says what a command has to tell, and answers how it ends.
 pub fn tell<P: Panel>(panel: &mut P, told: &Told) -> Result<Ending, Stop>
     ensures ending { IfOk result (λ ending. ending ≡ told.now.ending) }
@@ -175,6 +189,10 @@ pub fn tell<P: Panel>(panel: &mut P, told: &Told) -> Result<Ending, Stop>
     ensures err { IsTrue P.tells → OnErr result (SaysPart (P.said panel.old) (P.said panel.new) told.now.text.items) }
     ensures stop { IfErr result (λ stop. stop ≡ Stop.Failed) }
     ensures says { OnlySays P.Panel panel.old panel.new (result ≡ Err Stop.Failed) }
+    ensures cut { IsTrue P.tells → IsSettled (P.account panel.old).now
+        → LeavesSince (P.account panel.old) (P.account panel.new)
+        (SaysOnly (P.files panel.old) (P.said panel.old) told.now.text.items) }
+    ensures settled { IsTrue P.tells → IsSettled (P.account panel.old).now → IsSettled (P.account panel.new).now }
 {
     say(panel, told.text.as_slice())?;
     Ok(told.ending)
@@ -186,7 +204,11 @@ pub fn say<P: Panel>(panel: &mut P, words: &[u8]) -> Result<(), Stop>
     ensures err { IsTrue P.tells → OnErr result (SaysPart (P.said panel.old) (P.said panel.new) words.now) }
     ensures stop { IfErr result (λ stop. stop ≡ Stop.Failed) }
     ensures says { OnlySays P.Panel panel.old panel.new (result ≡ Err Stop.Failed) }
+    ensures cut { IsTrue P.tells → IsSettled (P.account panel.old).now
+        → LeavesSince (P.account panel.old) (P.account panel.new)
+        (SaysOnly (P.files panel.old) (P.said panel.old) words.now) }
+    ensures settled { IsTrue P.tells → IsSettled (P.account panel.old).now → IsSettled (P.account panel.new).now }
 {
-    panel.say(words)?;
+    say_line(panel, words)?;
     Ok(())
 }

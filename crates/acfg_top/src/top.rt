@@ -1,12 +1,16 @@
 //! The top call.
 
 ghost use Rattle.std.specs.Prelude.{◌≡◌, ◌≤◌, ◌⊎◌, ◌≢◌, ℕ, List, IsTrue, IfOk, OnErr, map, string_bytes};
+ghost use Rattle.acfg_device.specs.Disk.{IsSettled};
+ghost use Rattle.acfg_device.specs.Left.{LeavesSince};
 ghost use Rattle.acfg_device.specs.Only.{OnlySays};
 ghost use Rattle.acfg_device.specs.Panel.{Files, Rose};
-ghost use Rattle.acfg_top.specs.Bodies.{command_of, status_of, Comes, HasNames};
+ghost use Rattle.acfg_store.specs.Damage.{HoldBytes};
+ghost use Rattle.acfg_top.specs.Bodies.{command_of, status_of, Comes, HasNames, OfReplay};
 ghost use Rattle.acfg_top.specs.Commands.{CommandGives, Gives, Only};
 ghost use Rattle.acfg_top.specs.Outcome.{Answers, IsBroken, IsDone, IsStatus, Outcome, Tells, Usage};
-ghost use Rattle.acfg_top.specs.Words.{Asks};
+ghost use Rattle.acfg_top.specs.Replay.{LeavesOfCommand};
+ghost use Rattle.acfg_top.specs.Words.{Asks, Replay};
 
 use crate::create_all::create_all;
 use crate::create_cache::create_cache;
@@ -16,6 +20,7 @@ use crate::ending::{Ending, Stop};
 use crate::flags::flags;
 use crate::query::query;
 use crate::rehearsal::rehearse_script;
+use crate::replay::replay_script;
 use crate::told::say;
 use crate::words::{Command, read_command};
 use acfg_device::{Device, Panel};
@@ -30,6 +35,7 @@ const USAGE: &[u8] = b"usage: acfg COMMAND WORD..\n";
 /// | 0 | the command's text | the command's work is done |
 /// | 1 | `usage: acfg COMMAND WORD..` | the words are of no command |
 /// | 2 | `refused FILE: WHAT` | an input is missing, or is refused by its named condition |
+/// | 3 | `damaged FILE` | the files of a device directory stand for no state, and FILE is the first at fault |
 /// | 4 | nothing more | the outside failed |
 /// | 5 | nothing more | memory was refused |
 pub fn run<D: Device>(alloc: Global, words: &[String], dev: &mut D) -> u8
@@ -39,6 +45,15 @@ pub fn run<D: Device>(alloc: Global, words: &[String], dev: &mut D) -> u8
         → Tells D.Panel (Gives (map string_bytes words.now) (D.files dev.old)) result dev.old dev.new }
     ensures exact { IsTrue D.tells → (outcome : Outcome) → Gives (map string_bytes words.now) (D.files dev.old) outcome
         → Answers D.Panel outcome result dev.old dev.new }
+
+    // Of a replay on a settled device: what a cut of power at any moment leaves, and a settled device unless the
+    // outside failed.
+    ensures cut { IsTrue D.tells → IsSettled (D.account dev.old).now → (script dir : List ℕ)
+        → Asks (map string_bytes words.now) (Replay script dir)
+        → LeavesSince (D.account dev.old) (D.account dev.new)
+        (LeavesOfCommand script dir (D.files dev.old) (D.said dev.old)) }
+    ensures settled { IsTrue D.tells → IsSettled (D.account dev.old).now → (script dir : List ℕ)
+        → Asks (map string_bytes words.now) (Replay script dir) → result ≢ 4 → IsSettled (D.account dev.new).now }
 
     // Of every device.
     ensures only { (command : _) → Asks (map string_bytes words.now) command
@@ -64,6 +79,7 @@ fn status(answer: Result<Ending, Stop>) -> u8
     match answer {
         Ok(Ending::Done) => 0,
         Ok(Ending::Refused) => 2,
+        Ok(Ending::Damaged) => 3,
         Err(Stop::Failed) => 4,
         Err(Stop::OutOfMemory) => 5,
     }
@@ -90,6 +106,11 @@ fn carry_out<D: Device>(alloc: Global, command: Command<'_>, dev: &mut D) -> Res
     ensures broken { IsTrue D.tells → OnErr result ((outcome : Outcome)
         → CommandGives (command_of command.entry) (D.files dev.old) outcome
         → IsBroken D.Panel outcome dev.old dev.new) }
+    ensures cut { IsTrue D.tells → IsSettled (D.account dev.old).now → OfReplay (command_of command.entry)
+        (λ script dir. LeavesSince (D.account dev.old) (D.account dev.new)
+        (LeavesOfCommand script dir (D.files dev.old) (D.said dev.old))) }
+    ensures settled { IsTrue D.tells → IsSettled (D.account dev.old).now → OfReplay (command_of command.entry)
+        (λ script dir. (result ≡ Err Stop.Failed → ⊥) → IsSettled (D.account dev.new).now) }
     ensures only { Only D.Panel (command_of command.entry) dev.old dev.new (result ≡ Err Stop.Failed) }
     ensures count { D.faults dev.old ≤ D.faults dev.new }
     ensures failed { result ≡ Err Stop.Failed → Rose (D.faults dev.old) (D.faults dev.new) }
@@ -97,6 +118,7 @@ fn carry_out<D: Device>(alloc: Global, command: Command<'_>, dev: &mut D) -> Res
     match command {
         Command::Flags(file) => flags(alloc, file, dev),
         Command::Rehearse(script) => rehearse_script(alloc, script, dev),
+        Command::Replay(script, dir) => replay_script(alloc, script, dir, dev),
         Command::Query(dir, asked) => query(alloc, dir, asked, dev),
         Command::Dump(asked) => dump_caches(alloc, asked, dev),
         Command::CreateCache(asked) => create_cache(alloc, asked, dev),
@@ -111,7 +133,9 @@ pub fn one_outcome()
         → Gives words files outcome → Gives words files other → outcome ≡ other }
 {}
 
-/// It can't be that words and files have no outcome.
+/// It can't be that words and files have no outcome. Of a replay this is said of files of bytes, as all files are.
 pub fn some_outcome()
-    ensures { (words : List (List ℕ)) (files : Files) → ¬ ((outcome : Outcome) → Gives words files outcome → ⊥) }
+    ensures { (words : List (List ℕ)) (files : Files)
+        → ((script dir : List ℕ) → Asks words (Replay script dir) → HoldBytes files)
+        → ¬ ((outcome : Outcome) → Gives words files outcome → ⊥) }
 {}

@@ -14,6 +14,8 @@ pub enum Command<'a> {
     Flags(&'a str),
     /// `rehearse SCRIPT`
     Rehearse(&'a str),
+    /// `replay SCRIPT DIR`
+    Replay(&'a str, &'a str),
     /// `query DIR P F`
     Query(&'a str, FlagWords<'a>),
     /// `dump FORMAT FILTER FILE..`
@@ -105,6 +107,9 @@ fn read_with_more<'a>(
         ((asked : _) → Asks (name.now ∷ first.now ∷ second.now ∷ map string_bytes rest.now) asked → ⊥)
         (λ asked. Asks (name.now ∷ first.now ∷ second.now ∷ map string_bytes rest.now) (command_of asked)) }
 {
+    if name == "replay" {
+        return read_replay(first, second, rest);
+    }
     if name == "query" {
         return read_query(first, second, rest);
     }
@@ -121,6 +126,7 @@ fn read_writing<'a>(
     second: &'a str,
     rest: &'a [String],
 ) -> Option<Command<'a>>
+    requires replay { name.now ≢ codes "replay" }
     requires query { name.now ≢ codes "query" }
     requires dump { name.now ≢ codes "dump" }
     ensures { MatchOption result
@@ -134,6 +140,33 @@ fn read_writing<'a>(
         return read_create_storage(first, second, rest);
     }
     None
+}
+
+// What `replay` and these words ask for.
+fn read_replay<'a>(script: &'a str, dir: &'a str, rest: &'a [String]) -> Option<Command<'a>>
+    ensures { MatchOption result
+        ((asked : _) → Asks (codes "replay" ∷ script.now ∷ dir.now ∷ map string_bytes rest.now) asked → ⊥)
+        (λ asked. Asks (codes "replay" ∷ script.now ∷ dir.now ∷ map string_bytes rest.now) (command_of asked)) }
+{
+    match rest {
+        [] => read_places(script, dir),
+        _ => None,
+    }
+}
+
+// What `replay` and the words of a script and a directory ask for.
+fn read_places<'a>(script: &'a str, dir: &'a str) -> Option<Command<'a>>
+    ensures { MatchOption result
+        ((asked : _) → Asks (codes "replay" ∷ script.now ∷ dir.now ∷ []) asked → ⊥)
+        (λ asked. Asks (codes "replay" ∷ script.now ∷ dir.now ∷ []) (command_of asked)) }
+{
+    if !is_path_word(script) {
+        return None;
+    }
+    if !is_path_word(dir) {
+        return None;
+    }
+    Some(Command::Replay(script, dir))
 }
 
 // What `query` and these words ask for.

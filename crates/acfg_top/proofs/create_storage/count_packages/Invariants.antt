@@ -1,4 +1,5 @@
-use Rattle.std.proofs.Common.{◌≡◌, ◌+◌, ℕ, drop, filter, length, map, not}
+use Rattle.std.proofs.Common.{◌≡◌, ◌+◌, true, drop, filter, length, map, not}
+use Rattle.std.specs.Prelude.{IfSome}
 use Rattle.std.specs.BTreeSet.{btree_set_len}
 use Rattle.acfg_images.specs.Build.{compiled_flag}
 use Rattle.acfg_images.specs.Image.{package_names}
@@ -6,6 +7,9 @@ use Rattle.acfg_top.proofs.Packages.{has}
 use Rattle.acfg_top.proofs.create_storage.count_packages.Given as goal
 
 abbrev pub invariant-loop-flag : goal.invariant-loop-flag
-invariant-loop-flag l =
-    btree_set_len l.names + length (filter (λ name. not (has l.names name)) (package_names (map compiled_flag (drop l.flag-index l.flags))))
-    ≡ length (package_names (map compiled_flag l.flags))
+invariant-loop-flag l = record {
+  counted :
+      btree_set_len l.names + length (filter (λ name. not (has l.names name)) (package_names (map compiled_flag (drop l.flag-index l.flags))))
+      ≡ length (package_names (map compiled_flag l.flags));
+  seen : IfSome l.last (λ last. has l.names last.now ≡ true);
+}

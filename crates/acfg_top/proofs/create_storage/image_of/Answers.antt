@@ -1,5 +1,4 @@
-use Rattle.std.proofs.Common.{rules, ◌≡◌, ◌∙◌, sym, ap, subst, map, ⊎_elim}
-use Rattle.std.specs.Prelude.{Err, Result}
+use Rattle.std.proofs.Common.{rules, ◌∙◌, sym, ap, map, ⊎_elim}
 use Rattle.acfg_images.specs.Build.{built, compiled_flag, compiled_in}
 use Rattle.acfg_top.specs.CreateStorage.{image_told, limit_words}
 use Rattle.acfg_top.proofs.Storing.{one_cache}

@@ -6,11 +6,9 @@ use Rattle.acfg_top.proofs.create_storage.judged.Goals as goal
 
 pub returns-in-Ok-clause-told : goal.returns-in-Ok-clause-told
 returns-in-Ok-clause-told c =
-    let asked = c.args.asked in
-    made_product (StoredGives asked.container.now asked.dir.now (inputs_of c.args.inputs.now)) c.in-Ok.output c.in-Ok.ensures.ok
+    made_product (StoredGives c.args.container.now c.args.dir.now (inputs_of c.args.inputs.now)) c.in-Ok.output c.in-Ok.ensures.ok
 
 pub returns-in-Err-Refused-clause-told : goal.returns-in-Err-Refused-clause-told
 returns-in-Err-Refused-clause-told c =
-    let asked = c.args.asked in
-    product_halted (StoredGives asked.container.now asked.dir.now (inputs_of c.args.inputs.now))
+    product_halted (StoredGives c.args.container.now c.args.dir.now (inputs_of c.args.inputs.now))
     c.in-Err-Refused.field-0 c.in-Err-Refused.told _ c.in-Err-Refused.field-0-is c.in-Err-Refused.told-is c.in-Err-Refused.ensures.err c.only_told.result c.only_told.ensures.of

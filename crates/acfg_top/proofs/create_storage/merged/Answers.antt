@@ -1,4 +1,4 @@
-use Rattle.std.proofs.Common.{codes, ◌++◌, false, refl, ap, subst}
+use Rattle.std.proofs.Common.{codes, ◌++◌, false, ap, subst}
 use Rattle.acfg_cache.specs.Merging.{IfClash, IsFirstClash}
 use Rattle.acfg_top.proofs.create_storage.merged.Goals as goal
 

@@ -1,4 +1,4 @@
-use Rattle.std.proofs.Common.{◌≡◌, ℕ, List, ◌++◌, length}
+use Rattle.std.proofs.Common.{length}
 use Rattle.acfg_daemon.specs.Lines.{lines}
 use Rattle.acfg_top.specs.JobBodies.{jobs_of}
 use Rattle.acfg_top.proofs.JobLines.{Reads}

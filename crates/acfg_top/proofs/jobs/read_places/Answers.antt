@@ -1,4 +1,4 @@
-use Rattle.std.proofs.Common.{◌≡◌, ◌<◌, ◌∷◌, ℕ, List, All, true, false, length, map, subst, sym, ap, ◌∙◌, lit<, string_bytes}
+use Rattle.std.proofs.Common.{◌≡◌, ◌<◌, ◌∷◌, ℕ, List, All, true, false, length, subst, sym, ap, ◌∙◌, lit<, string_bytes}
 use Rattle.std.specs.Prelude.{Some}
 use Rattle.std.specs.Option.{SomeIff}
 use Rattle.std.proofs.lemmas.List.Elements.{All-map}

@@ -5,7 +5,7 @@ use Rattle.acfg_top.proofs.output.save_and_tell.Goals as goal
 
 pub returns-in_err-save_files-clause-broken : goal.returns-in_err-save_files-clause-broken
 returns-in_err-save_files-clause-broken g c = λ tells.
-    save_breaks g.D.Panel c.args.output.now c.from_residual.result
+    save_breaks g.D.Panel c.args.output.now c.requires c.from_residual.result
     (changes_same c.as_slice.result.now c.args.output.now.files.items c.as_slice.ensures.value c.in_err-save_files.ensures.changes)
 
 pub returns-in_err-save_files-clause-writes : goal.returns-in_err-save_files-clause-writes
@@ -16,13 +16,13 @@ returns-in_err-save_files-clause-writes g c =
 pub returns-clause-told : goal.returns-clause-told
 returns-clause-told g c = λ tells.
     let saved = c.in_ok-save_files.ensures in
-    put_ends g.D.Panel c.args.output.now (saved.files tells ∙ ap (λ files. written files (g.D.Panel.files c.args.device.now)) c.as_slice.ensures.value) saved.changes.said c.tell.ensures.says
+    put_ends g.D.Panel c.args.output.now c.requires (saved.files tells ∙ ap (λ files. written files (g.D.Panel.files c.args.device.now)) c.as_slice.ensures.value) saved.changes.said c.tell.ensures.says
     c.tell.result (saved.settled tells) c.tell.ensures.ending (c.tell.ensures.ok tells)
 
 pub returns-clause-broken : goal.returns-clause-broken
 returns-clause-broken g c = λ tells.
     let saved = c.in_ok-save_files.ensures in
-    put_breaks g.D.Panel c.args.output.now (saved.files tells ∙ ap (λ files. written files (g.D.Panel.files c.args.device.now)) c.as_slice.ensures.value) saved.changes.said c.tell.ensures.says
+    put_breaks g.D.Panel c.args.output.now c.requires (saved.files tells ∙ ap (λ files. written files (g.D.Panel.files c.args.device.now)) c.as_slice.ensures.value) saved.changes.said c.tell.ensures.says
     c.tell.result (saved.settled tells) (c.tell.ensures.err tells)
 
 pub returns-clause-writes : goal.returns-clause-writes

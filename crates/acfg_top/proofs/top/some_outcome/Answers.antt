@@ -2,4 +2,4 @@ use Rattle.acfg_top.proofs.SomeOutcome.{some_outcome}
 use Rattle.acfg_top.proofs.top.some_outcome.Goals as goal
 
 pub returns : goal.returns
-returns c = λ words files none. some_outcome words files (λ found. none found.0 found.1)
+returns c = λ words files hold none. some_outcome words files hold (λ found. none found.0 found.1)

@@ -1,4 +1,4 @@
-use Rattle.std.proofs.Common.{rules, string_bytes, sym, ◌∙◌, ◌<◌, length}
+use Rattle.std.proofs.Common.{rules, string_bytes, ◌<◌, length}
 use Rattle.acfg_top.specs.Words.{IsPathWord}
 use Rattle.acfg_top.proofs.Lists.{path_words}
 use Rattle.acfg_top.proofs.words.are_path_words.Goals as goal

@@ -1,4 +1,4 @@
-use Rattle.std.proofs.Common.{rules, ◌≡◌, ◌∷◌, List, ℕ, codes, map, string_bytes, subst, sym}
+use Rattle.std.proofs.Common.{rules, ◌≡◌, ◌∷◌, codes, map, string_bytes, subst, sym}
 use Rattle.std.specs.Prelude.{MatchOption}
 use Rattle.acfg_top.specs.Bodies.{command_of}
 use Rattle.acfg_top.specs.Words.{Asks}

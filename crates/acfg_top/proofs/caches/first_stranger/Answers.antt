@@ -5,7 +5,7 @@ use Rattle.std.proofs.lemmas.List.Elements.{All-more}
 use Rattle.std.proofs.lemmas.Option.{slice_get_read}
 use Rattle.acfg_decls.specs.declared.flags.Flag.{Flag}
 use Rattle.acfg_top.proofs.Strangers.{other_text, same_text}
-use Rattle.acfg_top.proofs.create_storage.first_stranger.Goals as goal
+use Rattle.acfg_top.proofs.caches.first_stranger.Goals as goal
 
 pub returns-then-ne : goal.returns-then-ne
 returns-then-ne c =

@@ -5,7 +5,7 @@ use Rattle.acfg_top.specs.Bodies.{input_of}
 use Rattle.acfg_top.specs.Caches.{IsBadCache}
 use Rattle.acfg_top.specs.CreateStorage.{AreOwn, FirstStranger, IsNoOwnCache}
 use Rattle.acfg_top.proofs.Reading.{refused_weaker}
-use Rattle.acfg_top.proofs.create_storage.own_cache.Goals as goal
+use Rattle.acfg_top.proofs.caches.own_cache.Goals as goal
 
 pub returns-in_err-flags-clause-err : goal.returns-in_err-flags-clause-err
 returns-in_err-flags-clause-err c =
