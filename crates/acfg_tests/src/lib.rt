@@ -1,5 +1,5 @@
-//! Tests of the libraries that the program stands on, by their public functions: a crate with tests of its own is proved
-//! twice.
+//! Tests of the libraries that the program stands on, by their public functions: a crate with tests of its own is
+//! proved twice.
 #![tactic(auto)]
 
 #[cfg(test)]

@@ -68,10 +68,13 @@ const ABSENT: [(&str, &str); 8] = [
     ("", "enabled_rw"),
 ];
 
-/// How many flags the set of `many` has, in how many buckets.
-const MANY: u32 = 300;
+/// How many flags the set of `many` has, in how many buckets: as many flags as a container may have.
+const MANY: u32 = 50_000;
 
-const BUCKETS: u32 = 97;
+const BUCKETS: u32 = 24_593;
+
+/// The length of each of its flags' nodes: 16 bytes beside the name.
+const NODE: u32 = 22;
 
 /// A text that is too long for a name.
 const LONG: [u8; 300] = [b'a'; 300];
@@ -158,9 +161,11 @@ fn each_flag_is_found_and_no_other(rt: HostRuntime) -> Result<(), Fail> {
 }
 
 // The name with a number: a letter and its digits.
-fn name(letter: u8, i: u32) -> [u8; 4] {
+fn name(letter: u8, i: u32) -> [u8; 6] {
     [
         letter,
+        b'0' + (i / 10_000 % 10) as u8,
+        b'0' + (i / 1_000 % 10) as u8,
         b'0' + (i / 100 % 10) as u8,
         b'0' + (i / 10 % 10) as u8,
         b'0' + (i % 10) as u8,
@@ -191,7 +196,7 @@ fn many_bytes(alloc: Global, file_type: u8, byte: u8) -> Result<Vec<u8>, AllocEr
     Ok(out)
 }
 
-// Where the first node of each bucket stands, and each node's next, for nodes of 20 bytes one behind another.
+// Where the first node of each bucket stands, and each node's next, for nodes one behind another.
 fn links(alloc: Global, first: u32) -> Result<(Vec<u32>, Vec<u32>), AllocError> {
     let mut firsts = vec![in alloc; 0u32; BUCKETS as usize]?;
     let mut nexts = vec![in alloc; 0u32; MANY as usize]?;
@@ -199,7 +204,7 @@ fn links(alloc: Global, first: u32) -> Result<(Vec<u32>, Vec<u32>), AllocError> 
         let bucket = flag_bucket(0, &name(b'f', i), BUCKETS) as usize;
         if bucket < firsts.len() && (i as usize) < nexts.len() {
             nexts[i as usize] = firsts[bucket];
-            firsts[bucket] = first.wrapping_add(i.wrapping_mul(20));
+            firsts[bucket] = first.wrapping_add(i.wrapping_mul(NODE));
         }
     }
     Ok((firsts, nexts))
@@ -209,7 +214,7 @@ fn many_flags(alloc: Global) -> Result<Vec<u8>, AllocError> {
     let first = 26 + 4 * BUCKETS;
     let (firsts, nexts) = links(alloc, first)?;
     let mut out = Vec::new(alloc);
-    put_header(&mut out, 1, first + 20 * MANY, MANY)?;
+    put_header(&mut out, 1, first + NODE * MANY, MANY)?;
     put(&mut out, 26)?;
     put(&mut out, first)?;
     for at in firsts.iter() {
@@ -218,7 +223,7 @@ fn many_flags(alloc: Global) -> Result<Vec<u8>, AllocError> {
     let mut i = 0;
     for next in nexts.iter() {
         put(&mut out, 0)?;
-        put(&mut out, 4)?;
+        put(&mut out, 6)?;
         out.extend_from_slice(&name(b'f', i))?;
         put(&mut out, i.wrapping_mul(65_536))?;
         put(&mut out, *next)?;

@@ -43,8 +43,8 @@ const TOLD: [(&str, u8, &str); 12] = [
     ("-jobs", 1, "usage: acfg COMMAND WORD..\n"),
 ];
 
-// A device with the files.
-fn device(alloc: Global) -> Result<MemDevice, OutOfMemory> {
+// A device with the files, of whose calls these fail.
+fn device(alloc: Global, fails: Vec<u64>) -> Result<MemDevice, OutOfMemory> {
     let mut held = Vec::new(alloc);
     for (name, bytes) in FILES {
         held.push((
@@ -52,7 +52,7 @@ fn device(alloc: Global) -> Result<MemDevice, OutOfMemory> {
             Vec::from_slice(alloc, bytes)?,
         ))?;
     }
-    MemDevice::new(alloc, held, Vec::new(alloc))
+    MemDevice::new(alloc, held, fails)
 }
 
 // What is at a name, or nothing.
@@ -67,7 +67,7 @@ fn file_at(alloc: Global, device: &mut MemDevice, name: &str) -> Vec<u8> {
 #[test]
 fn jobs_are_stored_in_order(rt: HostRuntime) -> Result<(), Fail> {
     let alloc = rt.alloc();
-    let mut device = device(alloc)?;
+    let mut device = device(alloc, Vec::new(alloc))?;
     let asked = words(alloc, &["create-all", "jobs"])?;
     assert_eq!(rt; run(alloc, &asked, &mut device), 0);
     let mut twice = String::from_str(alloc, ONE_STORED)?;
@@ -87,7 +87,7 @@ fn jobs_are_stored_in_order(rt: HostRuntime) -> Result<(), Fail> {
 #[test]
 fn lists_are_refused_before_a_file_is_written(rt: HostRuntime) -> Result<(), Fail> {
     let alloc = rt.alloc();
-    let mut device = device(alloc)?;
+    let mut device = device(alloc, Vec::new(alloc))?;
     let mut all_said = String::new(alloc);
     for (list, status, said) in TOLD {
         let asked = words(alloc, &["create-all", list])?;
@@ -99,5 +99,19 @@ fn lists_are_refused_before_a_file_is_written(rt: HostRuntime) -> Result<(), Fai
     assert_eq!(rt; file_at(alloc, &mut device, "i4/package.map").len(), 0);
     let asked = words(alloc, &["create-all", "dashes"])?;
     assert_eq!(rt; run(alloc, &asked, &mut device), 0);
+    Ok(())
+}
+
+#[test]
+fn all_sets_are_whole_before_a_word_is_said(rt: HostRuntime) -> Result<(), Fail> {
+    let alloc = rt.alloc();
+    let asked = words(alloc, &["create-all", "jobs"])?;
+    let mut whole = device(alloc, Vec::new(alloc))?;
+    assert_eq!(rt; run(alloc, &asked, &mut whole), 0);
+    for call in 0..whole.calls() {
+        let mut device = device(alloc, vec![in alloc; call]?)?;
+        assert_eq!(rt; run(alloc, &asked, &mut device), 4, "call {call} fails");
+        assert_eq!(rt; device.said().len(), 0, "call {call} fails");
+    }
     Ok(())
 }
