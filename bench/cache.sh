@@ -41,7 +41,8 @@ for count in 32767 65535; do
     declarations com.android.bench.flags "$count" >"$count.aconfig"
     created=$(seconds create-cache com.android.bench.flags system "$count.cache" "$count.aconfig")
     dumped=$(seconds dump text all "$count.cache")
-    echo "$count flags: a cache of $(wc -c <"$count.cache") bytes in $created s; $(wc -l <said) lines dumped in $dumped s"
+    echo "$count flags: a cache of $(wc -c <"$count.cache") bytes in $created s"
+    echo "$(wc -l <said) lines dumped in $dumped s"
     last_created=${this_created:-}
     last_dumped=${this_dumped:-}
     this_created=$created

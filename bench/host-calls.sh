@@ -5,13 +5,14 @@
 # an fsync of the host.
 #
 # usage: bench/host-calls.sh PROGRAM WORD..     wants strace; run it in a folder that may be written to
-# `create-cache`, `create-storage` and `create-all` write files; any program that is built on acfg_hostdev may be given.
+# `create-cache`, `create-storage`, `create-all` and `replay` write files; any program that is built on acfg_hostdev may be given.
 set -eu
 calls=$(mktemp)
 trap 'rm -f "$calls"' EXIT
 status=0
-strace -f -y -s 0 -o "$calls" -e trace=open,openat,creat,write,pwrite64,writev,ftruncate,fsync,fdatasync,rename,renameat,renameat2,unlink,unlinkat,mkdir,mkdirat \
-    "$@" >/dev/null || status=$?
+traced=open,openat,creat,write,pwrite64,writev,ftruncate,fsync,fdatasync
+traced=$traced,rename,renameat,renameat2,unlink,unlinkat,mkdir,mkdirat
+strace -f -y -s 0 -o "$calls" -e trace="$traced" "$@" >/dev/null || status=$?
 echo "${1##*/} ended with status $status"
 # With -s 0 a path is still printed whole; -y gives each descriptor's path.
 awk -v here="$(pwd -P)" '

@@ -16,7 +16,8 @@ mkdir release
 awk 'BEGIN {
     print "package: \"com.android.bench\"\ncontainer: \"bench\"\n"
     for (i = 0; i < 100; i++)
-        printf "flag {\n    name: \"flag_%d\"\n    namespace: \"bench\"\n    description: \"A flag.\"\n    bug: \"b/%d\"\n}\n", i, i
+        printf "flag {\n    name: \"flag_%d\"\n    namespace: \"bench\"\n" \
+            "    description: \"A flag.\"\n    bug: \"b/%d\"\n}\n", i, i
 }' >release/flags.aconfig
 
 # script COUNT: an update, a boot, and in turn a look-up and an override, by 256 clients
@@ -25,7 +26,8 @@ script() {
         print "0 update bench release\n0 boot"
         for (i = 2; i < count; i++)
             if (i % 2) printf "%d get bench com.android.bench flag_%d\n", i % 256, (i * 31) % 100
-            else printf "%d server bench com.android.bench flag_%d %s\n", i % 256, (i * 7) % 100, i % 4 ? "true" : "false"
+            else printf "%d server bench com.android.bench flag_%d %s\n", i % 256, (i * 7) % 100,
+                i % 4 ? "true" : "false"
     }'
 }
 
@@ -68,5 +70,6 @@ command -v valgrind >/dev/null || exit 0
 ours=$(instructions "$program" rehearse 100000.script)
 theirs=$(instructions ./plain 100000.script "$digest")
 awk -v ours="$ours" -v theirs="$theirs" 'BEGIN {
-    printf "instructions a line: %d, in plain Rust %d, %.2f times as many\n", ours / 100000, theirs / 100000, ours / theirs
+    printf "instructions a line: %d, in plain Rust %d, %.2f times as many\n",
+        ours / 100000, theirs / 100000, ours / theirs
 }'

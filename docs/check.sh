@@ -1,5 +1,5 @@
 #!/usr/bin/env bash
-# Runs every transcript that README.md, docs/GUIDE.md and docs/FORMATS.md show, and compares it byte for byte.
+# Runs every transcript that README.md and the pages of docs show, and compares it byte for byte.
 #
 # A transcript is a block whose first line is three backquotes, the word `console` and a folder of the repository. In it
 # a line `$ COMMAND` is run in that folder, with the program on the path, and the lines below it are what it says to
@@ -14,6 +14,7 @@ trap 'rm -r "$work"' EXIT
 mkdir "$work/bin"
 ln -s "$program" "$work/bin/acfg"
 PATH=$work/bin:$PATH
+cd "$top"
 failed=0
 ran=0
 
@@ -29,7 +30,7 @@ compare() {
     fi
 }
 
-for page in README.md docs/GUIDE.md docs/FORMATS.md; do
+for page in README.md docs/*.md; do
     folder=
     command=
     while IFS= read -r line; do
@@ -57,7 +58,11 @@ for page in README.md docs/GUIDE.md docs/FORMATS.md; do
                 fi
                 ;;
         esac
-    done <"$top/$page"
+    done <"$page"
+    if [ -n "$folder" ]; then
+        echo "$page: a transcript has no end"
+        failed=1
+    fi
 done
 
 echo "$ran transcripts run"
