@@ -50,7 +50,7 @@ place row = row.index
 abbrev flag_in : Listed → BootedFlag
 flag_in r = record { kind = r.kind; value = r.value; server = has_server r.bits; local = has_local r.bits }
 
-abbrev facts : BootedFlag → Kind × Bool
+abbrev pub facts : BootedFlag → Kind × Bool
 facts flag = (flag.kind, flag.value)
 
 abbrev noted : BootedFlag → Bool × Bool
@@ -224,6 +224,13 @@ module _ (files : four.Files) (parts : SetParts) (is_set : IsSetOf files purpose
               ∙ get-map_values key_total key_exact (λ (k : Key) (flag : BootedFlag). noted flag) boot q);
         }
 
+-- a set of a boot copy lists of a flag what the boot copy has of it
+pub facts_read : (parts : SetParts) (boot : BootMap) (key : Key) → release_in parts ≡ boot_release boot
+    → option_map (λ (x : Listed). (x.kind, x.value)) (row_at key_cmp listed_key (listing parts) key) ≡ option_map facts (get boot key)
+facts_read parts boot key release_is =
+    sym (get-map_of key_total listed_key (λ (x : Listed). (x.kind, x.value)) (listing parts) key) ∙ ap (λ (m : ReleaseMap). get m key) release_is
+    ∙ get-map_values key_total key_exact (λ (k : Key) (flag : BootedFlag). facts flag) boot key
+
 -- ---- a flag that a boot copy takes another value of
 
 -- such a flag as the set lists it, and as the boot copy has it
@@ -236,13 +243,8 @@ record IsTaken (parts : SetParts) (boot : BootMap) (key : Key) : Type 0 where
   writable : is_read_write row.kind ≡ true
 
 taken : (parts : SetParts) (boot : BootMap) (key : Key) → release_in parts ≡ boot_release boot → IsRenewable (Some boot) key → IsTaken parts boot key
-taken parts boot key release_is goes = go (row_at key_cmp listed_key (listing parts) key) (get boot key) refl refl both goes
+taken parts boot key release_is goes = go (row_at key_cmp listed_key (listing parts) key) (get boot key) refl refl (facts_read parts boot key release_is) goes
   where
-    both : option_map (λ (x : Listed). (x.kind, x.value)) (row_at key_cmp listed_key (listing parts) key) ≡ option_map facts (get boot key)
-    both =
-        sym (get-map_of key_total listed_key (λ (x : Listed). (x.kind, x.value)) (listing parts) key) ∙ ap (λ (m : ReleaseMap). get m key) release_is
-        ∙ get-map_values key_total key_exact (λ (k : Key) (flag : BootedFlag). facts flag) boot key
-
     go : (found : Option Listed) (entry : Option BootedFlag) → row_at key_cmp listed_key (listing parts) key ≡ found → get boot key ≡ entry
         → option_map (λ (x : Listed). (x.kind, x.value)) found ≡ option_map facts entry → entry_refusal entry ≡ None → IsTaken parts boot key
     go found None r w same goes = absurd cc

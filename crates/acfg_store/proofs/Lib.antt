@@ -7,6 +7,7 @@ pub mod ChangedNow
 pub mod Changing
 pub mod CopyCommitted
 pub mod CopyRenewed
+pub mod CopyValue
 pub mod Damaging
 pub mod Entering
 pub mod Faulting

@@ -138,3 +138,7 @@ read_failed read.OutOfMemory made is fails = cc
 
 pub reads_as : {P : Type 0} (panel : Ghosts P) (before after : P) (some fails : Type 0) → OnlyReads panel before after some → (fails → some) → OnlyReads panel before after fails
 reads_as panel before after some fails reads is = record { files = reads.files; said = reads.said; account = reads.account; count = reads.count; failed = λ fault. reads.failed (is fault) }
+
+-- want of memory is no failure of the outside
+pub no_device : (made : StoreFault) → made ≡ OutOfMemory → ◌≡◌ {A = Answer} (Err made) (Err Device) → ⊥
+no_device made is fails = cc

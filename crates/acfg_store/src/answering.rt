@@ -88,10 +88,10 @@ impl Store {
                 container,
                 package,
                 flag,
-            } => {
-                let reply = self.get(container.as_str(), package.as_str(), flag.as_str());
-                Ok((self, reply))
-            }
+            } => match self.get(alloc, container.as_str(), package.as_str(), flag.as_str()) {
+                Ok(reply) => Ok((self, reply)),
+                Err(refused) => Err(StoreFault::from(refused)),
+            },
         }
     }
 

@@ -8,13 +8,15 @@ ghost use Rattle.acfg_model.specs.Step.{change_step, get_reply};
 ghost use Rattle.acfg_store.specs.Applied.{IsMade, IsOfCall, IsOpen, IsQuiet, LeavesBetween, state_in};
 ghost use Rattle.acfg_store.specs.Names.{IsOfDirectory};
 
+use crate::looking::reply_from;
 use crate::overriding::change_in;
 use crate::planning::plan_change;
 use crate::store::Store;
 use crate::store_fault::StoreFault;
+use acfg_base::OutOfMemory;
 use acfg_commit::commit;
 use acfg_device::Device;
-use acfg_model::{Change, Refusal, Reply, place_of};
+use acfg_model::{Change, FlagKey, Refusal, Reply, place_of};
 use std::alloc::Global;
 
 impl Store {
@@ -67,20 +69,28 @@ impl Store {
         }
     }
 
-    /// The value of a flag in a container's boot copy, by what the store keeps. No device is called, and no memory is
-    /// taken.
-    pub(crate) fn get(&self, name: &str, package: &str, flag: &str) -> Reply
-        ensures { result ≡ get_reply (state_in self.now) name.now («package».now, flag.now) }
+    /// What a `get` of a flag replies, by the bytes that are kept of the container's boot copy. They are checked, and
+    /// then the flag is looked up in them. No device is called.
+    ///
+    /// # Errors
+    ///
+    /// `OutOfMemory` where an allocation was refused.
+    pub(crate) fn get(
+        &self,
+        alloc: Global,
+        name: &str,
+        package: &str,
+        flag: &str,
+    ) -> Result<Reply, OutOfMemory>
+        ensures { IfOk result (λ reply. reply ≡ get_reply (state_in self.now) name.now («package».now, flag.now)) }
     {
         match place_of(&self.containers, name) {
             Ok(at) => {
                 let one = &self.containers[at];
-                match one.container.boot_value(package, flag) {
-                    Ok(value) => Reply::Value(value),
-                    Err(refusal) => Reply::Refused(refusal.number()),
-                }
+                let key = FlagKey::new(package, flag);
+                reply_from(alloc, one, &key)
             }
-            Err(_) => Reply::Refused(Refusal::UnknownContainer.number()),
+            Err(_) => Ok(Reply::Refused(Refusal::UnknownContainer.number())),
         }
     }
 }

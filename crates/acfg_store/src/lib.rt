@@ -17,6 +17,7 @@ mod installing;
 mod laws;
 mod loading;
 mod locals;
+mod looking;
 mod marking;
 mod names;
 mod opening;

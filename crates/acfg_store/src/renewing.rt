@@ -12,14 +12,11 @@ ghost use Rattle.acfg_store.specs.Renewing as renewing;
 
 use crate::copying::{check_again, pick_byte};
 use crate::fields::bit_byte;
+use crate::looking::look_up;
 use acfg_base::{OutOfMemory, place};
 use acfg_images::{Checked, ImageSet, Use, restamp};
-use acfg_lookup::find_flag;
 use acfg_model::{Container, FlagKey, FlagState};
-use acfg_views::Steps;
 use std::alloc::{AllocError, Global};
-use std::marker::Brand;
-use std::sync::ledger::{Blank, Ledger};
 
 /// The files of a boot copy in which a flag has the pick of its container and a note of each override. All else is as
 /// it was. The release and the boot copy both have the flag, and it is read-write in the boot copy.
@@ -75,18 +72,7 @@ fn index_in(set: &Checked<'_>, key: &FlagKey<'_>) -> u32
     requires { IsSome (listed (parts_in set.now) key.now.0 key.now.1) }
     ensures { IsIndexIn (parts_in set.now) key.now result }
 {
-    place_flag::<Brand>(set, key, Blank::new(1))
-}
-
-fn place_flag<L: Ledger>(set: &Checked<'_>, key: &FlagKey<'_>, blank: Blank) -> u32
-    requires name { blank.name ≡ L.name }
-    requires parts { blank.parts ≡ L.parts }
-    requires one { L.parts ≡ 1 }
-    requires listed { IsSome (listed (parts_in set.now) key.now.0 key.now.1) }
-    ensures { IsIndexIn (parts_in set.now) key.now result }
-{
-    let mut steps = Steps::<L>::new(blank);
-    match find_flag(set, key.package(), key.flag(), &mut steps) {
+    match look_up(set, key) {
         Some(found) => found.index,
         None => unreachable!(),
     }
