@@ -11,10 +11,9 @@ use Rattle.std.proofs.lemmas.List.Sorted.{sum_by-IsPermutation}
 use Rattle.std.proofs.lemmas.Map.Lookups.{exact_bytes, exact_pairs}
 use Rattle.acfg_base.specs.declared.releases.Entry.{Entry}
 use Rattle.acfg_base.specs.declared.releases.Kind.TheVariants.{ReadWrite}
-use Rattle.acfg_base.specs.Places.{AreInOrder, row_at}
+use Rattle.acfg_base.specs.Places.{AreInOrder, row_at, SomeStepDown}
 use Rattle.acfg_base.specs.declared.releases.Kind.{Kind}
 use Rattle.acfg_base.specs.Release.{Key, ReleaseMap, key_cmp, key_of, facts_of, entry_at, release_of, entries_of, AreNamed, HasLawfulKeys, HasTwins, IsKey}
-use Rattle.acfg_base.specs.Bodies.{SomeStepDown}
 use Rattle.acfg_base.proofs.Rows.{T_of, first_true, second_true, Less_of, Equal_of, entries-map_of, len-map_of, map_of-permuted, true_of, AreInOrder-map, get-map_of, row_at-found}
 
 pub key_total : IsTotalOrder key_cmp
@@ -79,7 +78,7 @@ tied Greater Equal e a b = cc
 tied Greater Greater e a b = cc
 
 -- entries that don't rise, once sorted, have twins
-pub twins_found : (xs ys : List Entry) → IsPermutation xs ys → IsSortedByKey key_of key_cmp ys → SomeStepDown ys → HasTwins xs
+pub twins_found : (xs ys : List Entry) → IsPermutation xs ys → IsSortedByKey key_of key_cmp ys → SomeStepDown key_cmp key_of ys → HasTwins xs
 twins_found xs ys moved sorted (k, within, stops) =
     let inside : suc k < length ys = omega arith in
     let d : Entry = record { «package» = []; flag = []; kind = ReadWrite; value = false } in

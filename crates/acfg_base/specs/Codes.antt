@@ -4,14 +4,9 @@ use Rattle.std.specs.FinMap.{code}
 use Rattle.std.specs.Coded.{Coded, code_by, coded×, coded_bool, coded_list, coded_ℕ}
 use Rattle.acfg_base.specs.declared.releases.Kind.{Kind}
 use Rattle.acfg_base.specs.declared.releases.Kind.TheVariants.{ReadWrite, ReadOnly, Fixed}
-use Rattle.acfg_base.specs.Release.{Key, ReleaseMap}
+use Rattle.acfg_base.specs.Release.{Key, ReleaseMap, kind_number}
 
--- a kind as a number, and back, by which a value of it is stored
-abbrev pub kind_number : Kind → ℕ
-kind_number ReadWrite = 0
-kind_number ReadOnly = 1
-kind_number Fixed = 2
-
+-- a kind of a number, by which a value of it is stored
 abbrev pub numbered_kind : ℕ → Kind
 numbered_kind n = if n == 0 then ReadWrite else (if n == 1 then ReadOnly else Fixed)
 

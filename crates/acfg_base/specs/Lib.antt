@@ -1,9 +1,11 @@
 pub mod Bodies
 pub mod Bytes
 pub mod Codes
+pub mod Found
 pub mod Maps
 pub mod Names
 pub mod Paths
 pub mod Places
 pub mod Release
 pub mod Shorts
+pub mod Words

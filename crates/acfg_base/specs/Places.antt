@@ -1,14 +1,21 @@
 -- Rows in order of their keys: where a key stands, and which finite maps they make.
-use Rattle.std.specs.Prelude.{◌≡◌, ℕ, ◌<◌, ◌≤◌, List, length, map, filter_map, slice_index_or, IsTrue}
+use Rattle.std.specs.Prelude.{◌≡◌, ℕ, ◌+◌, ◌<◌, ◌≤◌, false, List, length, map, filter_map, slice_index_or, IsTrue}
 use Rattle.std.specs.Prelude.{Option, option_map, Result, MatchResult}
 use Rattle.std.specs.declared.cmp.Ordering.{Ordering}
 use Rattle.std.specs.declared.cmp.Ordering.TheVariants.{Less, Equal, Greater}
+use Rattle.std.specs.Ordering.{is_lt}
 use Rattle.std.specs.FinMap.{FinMap, from_entries, find, is_sorted}
 
 module _ {K Y : Type 0} (cmp : K → K → Ordering) (key : Y → K) (rows : List Y) where
   -- the keys rise strictly
   abbrev pub AreInOrder : Type 0
   AreInOrder = IsTrue (is_sorted cmp (map (λ row. (key row, row)) rows))
+
+  -- some row's key isn't below the next one's
+  abbrev pub SomeStepDown : Type 0
+  SomeStepDown =
+      (k : ℕ) × (k + 1 < length rows)
+      × ((d : Y) → is_lt (cmp (key (slice_index_or rows k d)) (key (slice_index_or rows (k + 1) d))) ≡ false)
 
   -- the first row with a key
   abbrev pub row_at : K → Option Y

@@ -1,5 +1,5 @@
 -- Releases: which flags a container has, each with its kind and value, as AOSP aconfig_storage_file keeps them.
-use Rattle.std.specs.Prelude.{◌≡◌, ℕ, ◌<◌, Bool, List, Some, All, map, count_by}
+use Rattle.std.specs.Prelude.{◌≡◌, ℕ, ◌<◌, Bool, true, false, List, Some, All, map, count_by}
 use Rattle.std.specs.declared.cmp.Ordering.{Ordering}
 use Rattle.std.specs.Ordering.{nat_cmp, ordering_then, eq_by_cmp}
 use Rattle.std.specs.Cmp.Lexicographic.{slice_cmp}
@@ -7,6 +7,7 @@ use Rattle.std.specs.FinMap.{FinMap, entries, get}
 use Rattle.acfg_base.specs.Names.{IsName, IsPackage}
 use Rattle.acfg_base.specs.Places.{map_of}
 use Rattle.acfg_base.specs.declared.releases.Kind.{Kind}
+use Rattle.acfg_base.specs.declared.releases.Kind.TheVariants.{ReadWrite, ReadOnly, Fixed}
 use Rattle.acfg_base.specs.declared.releases.Entry.{Entry}
 
 -- what names a flag: its package and its own name
@@ -16,6 +17,18 @@ Key = List ℕ × List ℕ
 -- by the bytes of the package, then by those of the name
 abbrev pub key_cmp : Key → Key → Ordering
 key_cmp a b = ordering_then (slice_cmp nat_cmp a.0 b.0) (slice_cmp nat_cmp a.1 b.1)
+
+-- a kind by its number, as the storage files have it
+abbrev pub kind_number : Kind → ℕ
+kind_number ReadWrite = 0
+kind_number ReadOnly = 1
+kind_number Fixed = 2
+
+-- whether the values of a kind may be overridden
+abbrev pub is_read_write : Kind → Bool
+is_read_write ReadWrite = true
+is_read_write ReadOnly = false
+is_read_write Fixed = false
 
 -- a release: a finite map from flags to kinds and values
 abbrev pub ReleaseMap : Type 0

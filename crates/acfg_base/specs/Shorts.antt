@@ -1,4 +1,4 @@
--- The bytes of a text, wherever they stand.
+-- Private: the bytes of a text, wherever they stand. No public clause cites it.
 use Rattle.std.specs.Prelude.{ℕ, List, string_bytes}
 use Rattle.acfg_base.specs.declared.text.Form.{Form}
 use Rattle.acfg_base.specs.declared.text.Form.TheVariants.{Short, Long}

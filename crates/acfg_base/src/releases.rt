@@ -3,9 +3,8 @@
 ghost use Rattle.std.specs.Prelude.{◌≡◌, ◌↔◌, IfOk, IfSome, IsNone, IsPermutation, IsSortedByKey, IsTrue};
 ghost use Rattle.std.specs.Bool.{MatchBool};
 ghost use Rattle.std.specs.FinMap.{get, len};
-ghost use Rattle.acfg_base.specs.Bodies.{SomeStepDown};
 ghost use Rattle.acfg_base.specs.Release.{key_of, key_cmp, release_of, entries_of, AreNamed, HasLawfulKeys, HasTwins};
-ghost use Rattle.acfg_base.specs.Places.{AreInOrder};
+ghost use Rattle.acfg_base.specs.Places.{AreInOrder, SomeStepDown};
 
 use crate::memory::OutOfMemory;
 use crate::ordered::{FlagRow, place};
@@ -165,7 +164,7 @@ fn sort(entries: &mut Vec<Entry>)
 
 // Whether each entry's key is below the next one's.
 fn rise(entries: &[Entry]) -> bool
-    ensures { MatchBool result (AreInOrder key_cmp key_of entries.now) (SomeStepDown entries.now) }
+    ensures { MatchBool result (AreInOrder key_cmp key_of entries.now) (SomeStepDown key_cmp key_of entries.now) }
 {
     entries.is_sorted_by(|a, b| a.compare(b.package.as_str(), b.flag.as_str()).is_lt())
 }

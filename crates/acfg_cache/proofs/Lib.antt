@@ -7,7 +7,6 @@ pub mod Orders
 mod RowOrder
 mod RowLists
 mod Taking
-mod SameFlags
 pub mod OneReading
 mod Spelled
 mod Bare

@@ -15,7 +15,7 @@ use Rattle.acfg_cache.specs.declared.fault.CacheFault.{CacheFault}
 use Rattle.acfg_cache.specs.declared.parts.PlacedField.{PlacedField}
 use Rattle.acfg_cache.specs.Reading.{FirstFails, Holds, IfFault, Test, flag_at, flag_in, flag_tests, flags_tests, order_tests}
 use Rattle.acfg_cache.specs.Bodies.{Rise, part_read, parts_read}
-use Rattle.acfg_cache.proofs.Passed.{PassedIn, all_joined, front_fails, if_weaker, in_behind, in_front, passed_next}
+use Rattle.acfg_cache.proofs.Passed.{PassedIn, front_fails, if_weaker, in_behind, in_front, passed_next}
 use Rattle.acfg_cache.proofs.Steps.{next}
 
 -- ---- the last one
@@ -123,10 +123,3 @@ one_place_fails before i message flag fault is made passed fails =
     (λ told first. in_front (flag_tests (length before) message ++ order_tests (length before) (last_or None before) (flag_in message)) [] told
     (in_behind (flag_tests (length before) message) (order_tests (length before) (last_or None before) (flag_in message)) told (subst (λ n. AllByRecursion Holds (flag_tests n message)) is passed) first))
     (subst (λ f. IfFault fault (FirstFails (order_tests (length before) (last_or None before) f))) made fails)
-
-pub one_passes : (before : List Flag) (i : ℕ) (message : ℕ × List ℕ) (flag : Flag) → i ≡ length before → flag ≡ flag_in message → AllByRecursion Holds (flag_tests i message)
-    → AllByRecursion Holds (order_tests (length before) (last_or None before) flag) → AllByRecursion Holds (flags_tests before (message ∷ []))
-one_passes before i message flag is made passed holds =
-    all_joined (flag_tests (length before) message ++ order_tests (length before) (last_or None before) (flag_in message)) []
-    (all_joined (flag_tests (length before) message) (order_tests (length before) (last_or None before) (flag_in message)) (subst (λ n. AllByRecursion Holds (flag_tests n message)) is passed)
-    (subst (λ f. AllByRecursion Holds (order_tests (length before) (last_or None before) f)) made holds)) tt

@@ -24,9 +24,6 @@ pub record PassedIn (rest whole : List Test) : Type 0 where
   pub fails : (told : CacheFault) → FirstFails rest told → FirstFails whole told
   pub holds : AllByRecursion Holds rest → AllByRecursion Holds whole
 
-pub passed_none : (tests : List Test) → PassedIn tests tests
-passed_none tests = record { fails = λ told fails. fails; holds = λ holds. holds }
-
 pub passed_next : (front rest whole : List Test) → AllByRecursion Holds front → PassedIn (front ++ rest) whole → PassedIn rest whole
 passed_next front rest whole holds passed = record {
   fails = λ told fails. passed.fails told (in_behind front rest told holds fails);

@@ -1,5 +1,5 @@
 -- The order of rows: by names, and then by lists.
-use Rattle.std.proofs.Common.{◌≡◌, ℕ, ◌+◌, ◌<◌, ◌⊎◌, Bool, true, false, List, [], ◌∷◌, length, map, take, get_or, Ordering, Less, Equal, Greater, is_lt, is_eq, refl, sym, ap, subst, ◌∙◌, arith, inl, inr, IsSortedByKey}
+use Rattle.std.proofs.Common.{◌≡◌, ℕ, ◌+◌, ◌<◌, Bool, true, false, List, [], ◌∷◌, length, map, take, get_or, Ordering, Less, Equal, Greater, is_lt, is_eq, sym, ap, subst, ◌∙◌, arith, inl, inr, IsSortedByKey}
 use Rattle.std.specs.Prelude.{Contains}
 use Rattle.std.specs.List.{IsDistinct}
 use Rattle.std.specs.List.Sorted.{IsSortedBy}
@@ -20,11 +20,6 @@ key_total = then_total (on_total (λ (k : RowKey). k.0) nat_list_cmp_total) (on_
 -- how names stand
 abbrev pub names : Listed → Listed → Ordering
 names a b = slice_cmp nat_cmp (full_name a.1) (full_name b.1)
-
-then_less : (r s : Ordering) → ordering_then r s ≡ Less → (r ≡ Less) ⊎ ((r ≡ Equal) × (s ≡ Less))
-then_less Less s e = inl refl
-then_less Equal s e = inr (refl, e)
-then_less Greater s e = cc
 
 -- a lesser row has no greater name
 pub not_greater : (a b : Listed) → row_order a b ≡ Less → names a b ≡ Greater → ⊥

@@ -19,11 +19,6 @@ use Rattle.acfg_cache.proofs.Passed.{PassedIn, front_fails, passed_next}
 pub next : {X : Type 0} (xs : List X) (i : ℕ) (x : X) → i < length xs → x ≡ get_or xs i x → drop i xs ≡ x ∷ drop (i + 1) xs
 next xs i x within is = drop-cons xs i x within ∙ ap (λ y. y ∷ drop (suc i) xs) (sym is) ∙ ap (λ n. x ∷ drop n xs) (sym (add-one i))
 
--- an item that was read of the element at a place is that element
-pub same_item : {X : Type 0} (xs : List X) (i : ℕ) (item read : X) → i < length xs → item ≡ get_or xs i item → read ≡ item → read ≡ get_or xs i read
-same_item xs i item read within is same = same ∙ is ∙ get_or_default xs i item read within
-
--- one more element is written
 pub put_next : {X : Type 0} (f : X → List ℕ) (xs : List X) (i : ℕ) (x : X) (before after whole : List ℕ) → i < length xs → x ≡ get_or xs i x → after ≡ before ++ f x
     → before ++ flat_map f (drop i xs) ≡ whole → after ++ flat_map f (drop (i + 1) xs) ≡ whole
 put_next f xs i x before after whole within is added so_far =

@@ -6,11 +6,11 @@ use Rattle.std.specs.List.{AllByRecursion, flat_map, list_all, last_or}
 use Rattle.std.specs.declared.cmp.Ordering.TheVariants.{Less, Equal}
 use Rattle.std.specs.Ordering.{nat_cmp}
 use Rattle.std.specs.Cmp.Lexicographic.{slice_cmp}
-use Rattle.acfg_base.specs.Names.{IsName, IsPackage, IsContainer}
 use Rattle.acfg_decls.specs.declared.flags.Flag.{Flag}
 use Rattle.acfg_decls.specs.declared.flags.Point.{Point}
 use Rattle.acfg_decls.specs.declared.flags.Purpose.{Purpose}
 use Rattle.acfg_decls.specs.declared.flags.Purpose.TheVariants.{Unspecified, Feature, Bugfix}
+use Rattle.acfg_decls.specs.Compile.{Rule, Name, Package, Container, Keeps}
 use Rattle.acfg_decls.specs.Flags.{full_name}
 use Rattle.acfg_wire.specs.declared.fault.WireFault.{WireFault}
 use Rattle.acfg_wire.specs.Fields.{Value, delimited}
@@ -88,16 +88,6 @@ abbrev pub is_whole : Counting → Bool
 is_whole counts = has_fields counts.said && (not (is_empty counts.traces) && list_all is_point counts.traces)
 
 -- ## The tests, in their order
-
-pub data Rule : Type 0 where
-  Name : Rule
-  Package : Rule
-  Container : Rule
-
-abbrev pub Keeps : Rule → List ℕ → Type 0
-Keeps Name text = IsName text
-Keeps Package text = IsPackage text
-Keeps Container text = IsContainer text
 
 -- each test but the first is of the flag at this position, from 0
 pub data Test : Type 0 where

@@ -1,6 +1,6 @@
 -- What the moves make of the files, name by name. Use these for a store's frame: that the files of an entry which
 -- a commit doesn't touch are the same after it is `replaced_others` and `written_others`, one behind the other.
-use Rattle.std.proofs.Common.{◌≡◌, ◌≢◌, ◌⊎◌, inl, inr, ℕ, suc, List, [], ◌∷◌, Some, None, string_bytes, refl, ◌∙◌, arith}
+use Rattle.std.proofs.Common.{◌≡◌, ◌⊎◌, inl, inr, ℕ, suc, List, [], ◌∷◌, Some, None, string_bytes, refl, ◌∙◌, arith}
 use Rattle.std.specs.Map.{update}
 use Rattle.std.specs.Str.{bytes_eq}
 use Rattle.acfg_device.specs.Left.{SameBut}
@@ -21,10 +21,6 @@ module _ (beside name bytes : List ℕ) (first : Files) where
   -- the file that is replaced has the new bytes
   pub replaced_here : replaced beside name bytes first name ≡ Some bytes
   replaced_here = update_here (update bytes_eq first beside None) name (Some bytes)
-
-  -- there is none beside it
-  pub replaced_beside : beside ≢ name → replaced beside name bytes first beside ≡ None
-  replaced_beside apart = update_apart (update bytes_eq first beside None) name (Some bytes) beside apart ∙ update_here first beside None
 
   -- and all others are the same
   pub replaced_others : SameBut (λ (other : List ℕ). (other ≡ beside) ⊎ (other ≡ name)) first (replaced beside name bytes first)

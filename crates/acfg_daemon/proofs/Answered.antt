@@ -5,7 +5,7 @@ use Rattle.acfg_device.specs.Account.{Account, moved_on}
 use Rattle.acfg_device.specs.Calls.{after_say}
 use Rattle.acfg_device.specs.Disk.{IsSettled, told}
 use Rattle.acfg_device.specs.Left.{LeavesSince, SameBut}
-use Rattle.acfg_device.specs.Only.{OnlyChanges, OnlySyncs}
+use Rattle.acfg_device.specs.Only.{OnlySyncs}
 use Rattle.acfg_device.specs.Outcomes.{MayHaveSaid}
 use Rattle.acfg_device.specs.Panel.{Files}
 use Rattle.acfg_device.specs.declared.panel.Panel.{Ghosts}
@@ -200,15 +200,6 @@ module _ {P : Type 0} {panel : Ghosts P} (changed : List ℕ → Type 0) {first 
   }
 
 module _ {P : Type 0} {panel : Ghosts P} (changed : List ℕ → Type 0) {first second : P} where
-  -- who changes files says nothing
-  pub changes_answers : {one fails : Type 0} → OnlyChanges panel changed first second one → (fails → one) → OnlyAnswers panel changed first second fails
-  changes_answers changes is = record {
-    others = changes.others;
-    words = λ told. ([], changes.said ∙ sym (append-nil (panel.said first)));
-    count = changes.count;
-    failed = λ fault. changes.failed (is fault);
-  }
-
   -- who only syncs changes no file
   pub syncs_answers : {one fails : Type 0} → OnlySyncs panel first second one → (fails → one) → OnlyAnswers panel changed first second fails
   syncs_answers syncs is = record {

@@ -9,7 +9,7 @@ use Rattle.std.proofs.lemmas.Str.Parse.{IsNumeralModel, numerals_by_value, tells
 use Rattle.std.proofs.lemmas.Str.{IsUtf8-from_ascii}
 use Rattle.std.specs.Str.{IsUtf8}
 use Rattle.acfg_base.specs.Bytes.{space}
-use Rattle.acfg_daemon.specs.Requests.{Finds}
+use Rattle.acfg_base.specs.Found.{Finds}
 use Rattle.acfg_daemon.specs.Bodies.{BeginsPlainly}
 use Rattle.acfg_daemon.specs.Lines.{IsGood}
 use Rattle.acfg_daemon.proofs.Cuts.{Lacks, Cut, same_cut, lacks_not}

@@ -1,12 +1,13 @@
 -- A script has one transcript, where one thing at most is loaded for a request.
 use Rattle.std.proofs.Common.{◌≡◌, ℕ, ◌+◌, Bool, true, false, List, [], ◌∷◌, ◌++◌, length, Option, refl, sym, ◌∙◌, ap, ap₂, subst, inl, inr, arith, append_assoc}
+use Rattle.acfg_base.specs.Words.{bool_word}
 use Rattle.acfg_model.specs.declared.requests.Loaded.{Loaded}
 use Rattle.acfg_model.specs.declared.requests.Reply.{Reply}
 use Rattle.acfg_model.specs.declared.requests.Request.{Request}
 use Rattle.acfg_model.specs.declared.requests.Request.TheVariants.{Update, Server, Local, Unset, Boot, Get}
 use Rattle.acfg_model.specs.State.{State}
 use Rattle.acfg_model.specs.Step.{step}
-use Rattle.acfg_daemon.specs.Requests.{value_word, words_of, Spells}
+use Rattle.acfg_daemon.specs.Requests.{words_of, Spells}
 use Rattle.acfg_daemon.specs.Replies.{reply_line}
 use Rattle.acfg_daemon.specs.Lines.{Event, Complete, TooLong, BadLine, IsEvent}
 use Rattle.acfg_daemon.specs.Transcript.{Serves, EventSays, LineSays, Transcript, Begins, Runs}
@@ -24,7 +25,7 @@ event_unique number line (BadLine n) (Complete b t) one other = absurd (one.1 b 
 event_unique number line (BadLine n) (TooLong b) one other = absurd (one.1 b other.0 other.1)
 event_unique number line (BadLine n) (BadLine m) one other = ap BadLine (one.0 ∙ sym other.0)
 
-value_unique : (a b : Bool) → value_word a ≡ value_word b → a ≡ b
+value_unique : (a b : Bool) → bool_word a ≡ bool_word b → a ≡ b
 value_unique true true same = refl
 value_unique true false same = cc
 value_unique false true same = cc

@@ -10,13 +10,16 @@ use Rattle.std.proofs.lemmas.List.Sums.{AllPass-from_list_all, fails_before_firs
 use Rattle.std.proofs.lemmas.Bool.{ne_eqb, eqb-true}
 use borrow.Author.Tests.{ltb-true}
 use lib.Dec.{eqb, ltb}
+use Rattle.acfg_base.specs.Found.{Finds}
 use Rattle.acfg_base.specs.Names.{AreNames, IsNameByte, dot}
 use Rattle.acfg_model.specs.declared.requests.Request.{Request}
 use Rattle.acfg_model.specs.declared.requests.Request.TheVariants.{Update, Server, Local, Unset, Boot, Get}
 use Rattle.acfg_daemon.specs.declared.requests.Verb.{Verb}
 use Rattle.acfg_daemon.specs.declared.requests.Verb.TheVariants as verb
 use Rattle.acfg_base.specs.Bytes.{space}
-use Rattle.acfg_daemon.specs.Requests.{value_word, local_word, unset_word, words_of, spelling, IsLawful, IsDirectory, AreWords, Spells, Finds}
+use Rattle.acfg_base.specs.Paths.{IsPathInLine}
+use Rattle.acfg_base.specs.Words.{bool_word}
+use Rattle.acfg_daemon.specs.Requests.{local_word, unset_word, words_of, spelling, IsLawful, AreWords, Spells}
 use Rattle.acfg_daemon.specs.Bodies.{verb_word}
 
 -- the first word is a verb's
@@ -63,10 +66,10 @@ names_word text names = record {
   text = IsUtf8-from_ascii text (IsAscii-from_reads text (length text) (omega arith) (λ k below. (name_byte _ (names.bytes k below)).1));
 }
 
-directory_word : (path : List ℕ) → IsDirectory path → IsWord path
+directory_word : (path : List ℕ) → IsPathInLine path → IsWord path
 directory_word path is = record { whole = λ k d within. ne_eqb _ _ (λ e. is.whole (k, within, get_or_default path k space d within ∙ e)); text = is.path.utf8 }
 
-value_is_word : (value : Bool) → IsWord (value_word value)
+value_is_word : (value : Bool) → IsWord (bool_word value)
 value_is_word true = own_word (codes "true") refl refl
 value_is_word false = own_word (codes "false") refl refl
 

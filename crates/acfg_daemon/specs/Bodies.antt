@@ -1,5 +1,6 @@
 -- Words of private bodies: no public clause cites them.
 use Rattle.std.specs.Prelude.{◌≡◌, ◌≢◌, ℕ, List, length, slice_index, codes}
+use Rattle.acfg_base.specs.Bytes.{digit_zero, plus}
 use Rattle.acfg_device.specs.declared.panel.ReadFault.{ReadFault}
 use Rattle.acfg_device.specs.declared.panel.ReadFault.TheVariants as read
 use Rattle.acfg_daemon.specs.declared.fault.DaemonFault.{DaemonFault}
@@ -27,8 +28,8 @@ verb_word Get = codes "get"
 
 -- the word has no `+` in front, and no `0` in front of another byte
 pub record BeginsPlainly (word : List ℕ) : Type 0 where
-  pub unsigned : slice_index word 0 ≢ 43
-  pub short : slice_index word 0 ≡ 48 → length word ≡ 1
+  pub unsigned : slice_index word 0 ≢ plus
+  pub short : slice_index word 0 ≡ digit_zero → length word ≡ 1
 
 abbrev pub event_of : ℕ → Arrived → Event
 event_of number (arrived.Complete client text) = Complete client text.now

@@ -3,10 +3,10 @@ use Rattle.std.specs.Prelude.{ℕ, Bool, List, [], ◌∷◌, ◌++◌, Option, 
 use Rattle.std.specs.Fmt.{decimal}
 use Rattle.hex.specs.Hex.{encode_lower}
 use Rattle.acfg_base.specs.Bytes.{line_feed, space}
+use Rattle.acfg_base.specs.Words.{bool_word}
 use Rattle.acfg_model.specs.declared.requests.Reply.{Reply}
 use Rattle.acfg_model.specs.declared.requests.Reply.TheVariants.{Fine, Updated, Unchanged, Value, Refused}
 use Rattle.acfg_model.specs.Refusals.{refusal_name, IsRefusal}
-use Rattle.acfg_daemon.specs.Requests.{value_word}
 
 -- the number of a refusal is in the table of refusals
 abbrev pub IsNumbered : Reply → Type 0
@@ -19,7 +19,7 @@ IsNumbered (Refused number) = IsRefusal number
 -- a value of the boot copy, where that has the flag
 abbrev pub boot_word : Option Bool → List ℕ
 boot_word None = codes "none"
-boot_word (Some value) = value_word value
+boot_word (Some value) = bool_word value
 
 -- what is replied: a refusal by its number and name, an update by its digest in hexadecimal digits and its number of
 -- flags

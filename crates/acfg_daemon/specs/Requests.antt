@@ -1,30 +1,21 @@
 -- The text of each request: its words, with one space between each two.
-use Rattle.std.specs.Prelude.{◌≡◌, ℕ, Bool, true, false, List, [], ◌∷◌, Contains, codes, Option, MatchOption}
+use Rattle.std.specs.Prelude.{◌≡◌, ℕ, Bool, true, false, List, [], ◌∷◌, codes}
 use Rattle.std.specs.List.{join_with_byte}
 use Rattle.acfg_base.specs.Bytes.{space}
 use Rattle.acfg_base.specs.Names.{IsContainer, IsPackage, IsName}
-use Rattle.acfg_base.specs.Paths.{IsPath}
+use Rattle.acfg_base.specs.Paths.{IsPathInLine}
+use Rattle.acfg_base.specs.Words.{bool_word}
 use Rattle.acfg_model.specs.declared.requests.Request.{Request}
 use Rattle.acfg_model.specs.declared.requests.Request.TheVariants.{Update, Server, Local, Unset, Boot, Get}
 
--- the path of a directory, which is one word
-pub record IsDirectory (text : List ℕ) : Type 0 where
-  pub path : IsPath text
-  pub whole : ¬ Contains text space
-
--- the names are names, and the directory is a path
+-- the names are names, and the directory is a path in one word
 abbrev pub IsLawful : Request → Type 0
-IsLawful (Update name dir) = IsContainer name × IsDirectory dir
+IsLawful (Update name dir) = IsContainer name × IsPathInLine dir
 IsLawful (Server name «package» flag value) = IsContainer name × IsPackage «package» × IsName flag
 IsLawful (Local name «package» flag value now) = IsContainer name × IsPackage «package» × IsName flag
 IsLawful (Unset name «package» flag now) = IsContainer name × IsPackage «package» × IsName flag
 IsLawful Boot = Unit {0}
 IsLawful (Get name «package» flag) = IsContainer name × IsPackage «package» × IsName flag
-
--- a flag's value as a word
-abbrev pub value_word : Bool → List ℕ
-value_word true = codes "true"
-value_word false = codes "false"
 
 -- the first word of a request for a local override, which may be for now
 abbrev pub local_word : Bool → List ℕ
@@ -37,9 +28,9 @@ unset_word true = codes "unset-now"
 
 abbrev pub words_of : Request → List (List ℕ)
 words_of (Update name dir) = codes "update" ∷ name ∷ dir ∷ []
-words_of (Server name «package» flag value) = codes "server" ∷ name ∷ «package» ∷ flag ∷ value_word value ∷ []
+words_of (Server name «package» flag value) = codes "server" ∷ name ∷ «package» ∷ flag ∷ bool_word value ∷ []
 words_of (Local name «package» flag value now) =
-    local_word now ∷ name ∷ «package» ∷ flag ∷ value_word value ∷ []
+    local_word now ∷ name ∷ «package» ∷ flag ∷ bool_word value ∷ []
 words_of (Unset name «package» flag now) = unset_word now ∷ name ∷ «package» ∷ flag ∷ []
 words_of Boot = codes "boot" ∷ []
 words_of (Get name «package» flag) = codes "get" ∷ name ∷ «package» ∷ flag ∷ []
@@ -57,7 +48,3 @@ pub record Spells (text : List ℕ) (request : Request) : Type 0 where
 pub record AreWords (words : List (List ℕ)) (request : Request) : Type 0 where
   pub lawful : IsLawful request
   pub same : words ≡ words_of request
-
--- what is found is such a value, and there is none where nothing is found
-abbrev pub Finds : {A : Type 0} → (A → Type 0) → Option A → Type 0
-Finds {A} P found = MatchOption found ((x : A) → P x → ⊥) P

@@ -6,7 +6,7 @@ use Rattle.acfg_decls.specs.declared.declared.DeclarationsFile.{DeclarationsFile
 use Rattle.acfg_decls.specs.declared.faults.DeclWhat.{DeclWhat}
 use Rattle.acfg_decls.specs.declared.faults.DeclWhat.TheVariants.{WrongContainer}
 use Rattle.acfg_decls.specs.declared.messages.Message.TheVariants.{FlagDeclarations}
-use Rattle.acfg_decls.specs.Compile.{Compiles, FailsToCompile}
+use Rattle.acfg_decls.specs.Compile.{Compiles, FailsToCompile, all_tests}
 use Rattle.acfg_decls.specs.Reading.{Declares, Refuses}
 use Rattle.acfg_decls.specs.Releases.{release}
 use Rattle.acfg_device.specs.Panel.{Files}
@@ -27,7 +27,7 @@ CompilesFor container file flags = Compiles file.package.text container (file �
 pub record FailsFor (container : List ℕ) (file : DeclarationsFile) (fault : DeclWhat) : Type 0 where
   pub number : ℕ
   pub place : ℕ
-  pub first : FailsToCompile file.package.text container (file ∷ []) [] number place fault
+  pub first : FailsToCompile (all_tests file.package.text container (file ∷ []) []) number place fault
 
 -- What the bytes at a path load as for a container: its flags behind the SHA-256 digest of the bytes (FIPS 180-4),
 -- where they are declarations that compile for it.

@@ -4,8 +4,8 @@ ghost use Rattle.std.specs.Prelude.{◌≡◌, ◌<◌, ◌↔◌, ◌++◌, ℕ
 ghost use Rattle.std.specs.List.{AllByRecursion};
 ghost use Rattle.std.specs.Option.{option_map};
 ghost use Rattle.std.specs.Fmt.{decimal};
-ghost use Rattle.acfg_daemon.specs.Requests.{Finds};
 ghost use Rattle.acfg_base.specs.Bytes.{backslash, line_feed};
+ghost use Rattle.acfg_base.specs.Found.{Finds};
 ghost use Rattle.acfg_daemon.specs.Bodies.{event_of, BeginsPlainly};
 ghost use Rattle.acfg_daemon.specs.Lines.{lines, EndsIn, IsGood, IsEvent, joined};
 

@@ -3,9 +3,12 @@
 ghost use Rattle.std.specs.Prelude.{◌≡◌, ◌==◌, ◌↔◌, ◌∷◌, map, IfOk, IsTrue};
 ghost use Rattle.std.specs.Option.{SomeIff};
 ghost use Rattle.std.specs.List.{slice_split};
+ghost use Rattle.acfg_base.specs.Found.{Finds};
 ghost use Rattle.acfg_base.specs.Names.{IsContainer, IsPackage, IsName};
 ghost use Rattle.acfg_base.specs.Bytes.{space};
-ghost use Rattle.acfg_daemon.specs.Requests.{value_word, Finds, IsDirectory, Spells, AreWords};
+ghost use Rattle.acfg_base.specs.Paths.{IsPathInLine};
+ghost use Rattle.acfg_base.specs.Words.{bool_word};
+ghost use Rattle.acfg_daemon.specs.Requests.{Spells, AreWords};
 ghost use Rattle.acfg_daemon.specs.Bodies.{verb_word};
 
 use acfg_base::{ContainerName, Name, OutOfMemory, PackageName, Text, is_path};
@@ -222,7 +225,7 @@ fn read_key(
 }
 
 fn read_value(word: &str) -> Option<bool>
-    ensures { Finds (λ value. word.now ≡ value_word value) result }
+    ensures { Finds (λ value. word.now ≡ bool_word value) result }
 {
     match word {
         "true" => Some(true),
@@ -232,7 +235,7 @@ fn read_value(word: &str) -> Option<bool>
 }
 
 fn is_directory(path: &str) -> bool
-    ensures { IsTrue result ↔ IsDirectory path.now }
+    ensures { IsTrue result ↔ IsPathInLine path.now }
 {
     is_path(path) && !path.as_bytes().contains(&b' ')
 }

@@ -12,6 +12,7 @@ use Rattle.std.specs.Ordering.{is_eq}
 use Rattle.std.specs.Cmp.{tied_itself}
 use Rattle.std.specs.Cmp.Lexicographic.{nat_list_cmp_total}
 use Rattle.std.proofs.lemmas.List.Sorted.{Contains-permutation, IsPermutation-refl, IsPermutation-sym, sum_by-IsPermutation}
+use Rattle.acfg_base.specs.Names.{dot}
 use Rattle.acfg_base.specs.declared.releases.Entry.{Entry}
 use Rattle.acfg_base.specs.Places.{AreInOrder}
 use Rattle.acfg_base.specs.Release.{HasTwins, key_cmp, key_of}
@@ -21,7 +22,7 @@ use Rattle.acfg_decls.specs.declared.flags.Flag.{Flag}
 use Rattle.acfg_decls.specs.declared.declared.FlagValue.{FlagValue}
 use Rattle.acfg_decls.specs.declared.declared.DeclaredFlag.{DeclaredFlag}
 use Rattle.acfg_decls.specs.Compile.{flag_of}
-use Rattle.acfg_decls.specs.Flags.{AreNoFlags, IsLawful, dot, full_name}
+use Rattle.acfg_decls.specs.Flags.{AreNoFlags, IsLawful, full_name}
 use Rattle.acfg_decls.specs.Places.{Finds, at, names}
 use Rattle.acfg_decls.specs.Releases.{entry_of}
 use Rattle.acfg_decls.proofs.Blank.{blank, blank_declared}

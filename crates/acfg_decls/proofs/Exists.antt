@@ -12,6 +12,7 @@ use Rattle.std.proofs.lemmas.List.Elements.{All-map}
 use Rattle.std.proofs.lemmas.List.Sorted.{All-permutation, IsPermutation-cons, IsPermutation-insert, IsPermutation-map, IsPermutation-refl, IsPermutation-to_front, IsPermutation-trans}
 use Rattle.std.proofs.lemmas.Map.Lookups.{exact_bytes}
 use Rattle.std.proofs.lemmas.Slice.Eq.{bytes_eq-Decides}
+use Rattle.acfg_base.specs.Names.{dot}
 use Rattle.acfg_base.specs.Places.{AreInOrder, WouldStandAt}
 use Rattle.acfg_base.proofs.Rows.{AreInOrder-insert, AreInOrder-map, Less_of, T_of, first_true, second_true, true_of}
 use Rattle.acfg_decls.specs.declared.flags.Flag.{Flag}
@@ -22,7 +23,7 @@ use Rattle.acfg_decls.specs.declared.declared.DeclarationsFile.{DeclarationsFile
 use Rattle.acfg_decls.specs.declared.declared.FlagValue.{FlagValue}
 use Rattle.acfg_decls.specs.declared.declared.ValuesFile.{ValuesFile}
 use Rattle.acfg_decls.specs.Compile.{Compiles, FailsToCompile, Frees, Holds, all_tests, declarations_tests, declared, file_tests, flag_of, flag_tests, header_tests, is_of, last_of, names_of, point_of, points, sourced, start, value_tests}
-use Rattle.acfg_decls.specs.Flags.{IsLawful, dot, full_name}
+use Rattle.acfg_decls.specs.Flags.{IsLawful, full_name}
 use Rattle.acfg_decls.proofs.Applied.{both_true}
 use Rattle.acfg_decls.proofs.Few.{holds_behind, holds_in_front}
 use Rattle.acfg_decls.proofs.OneAnswer.{some_first_in}
@@ -201,6 +202,6 @@ compiles «package» container files values passed =
     )
 
 pub compiles_or_fails : («package» container : List ℕ) (files : List DeclarationsFile) (values : List ValuesFile) → ((flags : List Flag) → Compiles «package» container files values flags → ⊥)
-    → ((file place : ℕ) (fault : DeclWhat) → FailsToCompile «package» container files values file place fault → ⊥) → ⊥
+    → ((file place : ℕ) (fault : DeclWhat) → FailsToCompile (all_tests «package» container files values) file place fault → ⊥) → ⊥
 compiles_or_fails «package» container files values none =
     some_first_in 0 (all_tests «package» container files values) (λ passed. let made = compiles «package» container files values passed in none made.0 made.1)

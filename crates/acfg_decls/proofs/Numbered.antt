@@ -41,19 +41,11 @@ pub record PassedIn (first number : ℕ) (rest whole : List (List Test)) : Type 
   pub fails : (file place : ℕ) (fault : DeclWhat) → FirstFailsIn number rest file place fault → FirstFailsIn first whole file place fault
   pub holds : AllByRecursion (AllByRecursion Holds) rest → AllByRecursion (AllByRecursion Holds) whole
 
-pub none_passed_in : (first : ℕ) (whole : List (List Test)) → PassedIn first first whole whole
-none_passed_in first whole = record { fails = λ file place fault h. h; holds = λ h. h }
-
 pub file_passed : (first number : ℕ) (here : List Test) (rest whole : List (List Test)) → AllByRecursion Holds here → PassedIn first number (here ∷ rest) whole → PassedIn first (number + 1) rest whole
 file_passed first number here rest whole holds passed = record {
   fails = λ file place fault fails. passed.fails file place fault (inr (holds, fails));
   holds = λ more. passed.holds (holds, more);
 }
-
--- a fault of the file of this number
-pub file_fails : (fault : DeclFault) (first number : ℕ) (here : List Test) (rest whole : List (List Test)) → PassedIn first number (here ∷ rest) whole → IfAt fault (FirstFails here) → IfIn (in_file number fault) (FirstFailsIn first whole)
-file_fails (At place what) first number here rest whole passed fails = passed.fails number place what (inl (refl, fails))
-file_fails OutOfMemory first number here rest whole passed fails = tt
 
 -- the names of flags behind those of a file
 pub names_behind : («package» container source : List ℕ) (before after : List Flag) (flags : List DeclaredFlag) → after ≡ before ++ map (λ flag. flag_of «package» container [] (source, flag)) flags → names after ≡ names before ++ names_of flags

@@ -69,10 +69,10 @@ pub compiles_unique : («package» container : List ℕ) (files : List Declarati
 compiles_unique «package» container files values flags other here there = one_list _ flags other here.same there.same here.are.sorted there.are.sorted
 
 pub fails_unique : («package» container : List ℕ) (files : List DeclarationsFile) (values : List ValuesFile) (file place other_file other_place : ℕ) (fault other : DeclWhat)
-    → FailsToCompile «package» container files values file place fault → FailsToCompile «package» container files values other_file other_place other → (file ≡ other_file) × (place ≡ other_place) × (fault ≡ other)
+    → FailsToCompile (all_tests «package» container files values) file place fault → FailsToCompile (all_tests «package» container files values) other_file other_place other → (file ≡ other_file) × (place ≡ other_place) × (fault ≡ other)
 fails_unique «package» container files values = one_first_in 0 (all_tests «package» container files values)
 
-pub compiles_apart : («package» container : List ℕ) (files : List DeclarationsFile) (values : List ValuesFile) (flags : List Flag) (file place : ℕ) (fault : DeclWhat) → Compiles «package» container files values flags → FailsToCompile «package» container files values file place fault → ⊥
+pub compiles_apart : («package» container : List ℕ) (files : List DeclarationsFile) (values : List ValuesFile) (flags : List Flag) (file place : ℕ) (fault : DeclWhat) → Compiles «package» container files values flags → FailsToCompile (all_tests «package» container files values) file place fault → ⊥
 compiles_apart «package» container files values flags file place fault here = none_fails_in 0 (all_tests «package» container files values) file place fault here.passed
 
 -- so has a file that is compiled by itself
@@ -85,7 +85,7 @@ own_unique file flags other here there =
 -- what fails where a container is named, and where none is
 abbrev FailsWith : DeclarationsFile → Option Placed → ℕ → ℕ → DeclWhat → Type 0
 FailsWith file named number place fault =
-    MatchOption named ((number ≡ 0) × (place ≡ file.end) × (fault ≡ MissingField)) (λ container. FailsToCompile file.package.text (container_read container.text) (file ∷ []) [] number place fault)
+    MatchOption named ((number ≡ 0) × (place ≡ file.end) × (fault ≡ MissingField)) (λ container. FailsToCompile (all_tests file.package.text (container_read container.text) (file ∷ []) []) number place fault)
 
 own_fails : (file : DeclarationsFile) (named : Option Placed) (number place other_number other_place : ℕ) (fault other : DeclWhat)
     → FailsWith file named number place fault → FailsWith file named other_number other_place other → (place ≡ other_place) × (fault ≡ other)

@@ -32,9 +32,6 @@ pub record Passed (rest whole : List Test) : Type 0 where
   pub fails : (place : ℕ) (fault : DeclWhat) → FirstFails rest place fault → FirstFails whole place fault
   pub holds : AllByRecursion Holds rest → AllByRecursion Holds whole
 
-pub none_passed : (whole : List Test) → Passed whole whole
-none_passed whole = record { fails = λ place fault h. h; holds = λ h. h }
-
 pub front_passed : (front rest whole : List Test) → AllByRecursion Holds front → Passed (front ++ rest) whole → Passed rest whole
 front_passed front rest whole holds passed = record {
   fails = λ place fault fails. passed.fails place fault (fails_behind front rest place fault holds fails);

@@ -218,10 +218,9 @@ pub record Compiles («package» container : List ℕ) (declarations : List Decl
   pub are : AreFlags flags
   pub same : IsPermutation (map (flag_of «package» container (flat_map sourced values)) (declared declarations)) flags
 
--- The first fault of declarations and values: its file, place and kind.
-abbrev pub FailsToCompile : List ℕ → List ℕ → List DeclarationsFile → List ValuesFile → ℕ → ℕ → DeclWhat → Type 0
-FailsToCompile «package» container declarations values =
-    FirstFailsIn 0 (all_tests «package» container declarations values)
+-- The first fault of declarations and values, whose tests these are: its file, place and kind.
+abbrev pub FailsToCompile : List (List Test) → ℕ → ℕ → DeclWhat → Type 0
+FailsToCompile = FirstFailsIn 0
 
 -- A file compiles to these flags with the package and the container that it names.
 pub record CompilesOwn (file : DeclarationsFile) (flags : List Flag) : Type 0 where
@@ -234,7 +233,8 @@ abbrev pub FailsOwn : DeclarationsFile → ℕ → ℕ → DeclWhat → Type 0
 FailsOwn file number place fault =
     MatchOption file.container
     ((number ≡ 0) × (place ≡ file.end) × (fault ≡ what.MissingField))
-    (λ container. FailsToCompile file.package.text (container_read container.text) (file ∷ []) [] number place fault)
+    (λ container.
+    FailsToCompile (all_tests file.package.text (container_read container.text) (file ∷ []) []) number place fault)
 
 -- a fault in a file, for which this holds; nothing is said of a want of memory
 abbrev pub IfIn : CompileFault → (ℕ → ℕ → DeclWhat → Type 0) → Type 0

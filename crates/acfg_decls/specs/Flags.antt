@@ -1,14 +1,11 @@
 -- Compiled flags: their order, and what a list of them has to keep. AOSP aconfig, `aconfig_internal.proto`.
-use Rattle.std.specs.Prelude.{◌≡◌, ◌⊎◌, ℕ, ◌+◌, ◌<◌, List, ◌∷◌, ◌++◌, length, slice_index_or, count_by, IsTrue, false}
+use Rattle.std.specs.Prelude.{◌⊎◌, ℕ, ◌<◌, List, ◌∷◌, ◌++◌, length, count_by, IsTrue}
 use Rattle.std.specs.Prelude.{All, Any}
-use Rattle.std.specs.declared.cmp.Ordering.{Ordering}
-use Rattle.std.specs.Ordering.{nat_cmp, eq_by_cmp, is_lt}
+use Rattle.std.specs.Ordering.{nat_cmp, eq_by_cmp}
 use Rattle.std.specs.Cmp.Lexicographic.{slice_cmp}
+use Rattle.acfg_base.specs.Names.{dot}
 use Rattle.acfg_base.specs.Places.{AreInOrder}
 use Rattle.acfg_decls.specs.declared.flags.Flag.{Flag}
-
-abbrev pub dot : ℕ
-dot = 46
 
 -- `package.name`
 abbrev pub full_name : Flag → List ℕ
@@ -31,9 +28,3 @@ HasTwins list = (name : List ℕ) × (1 < count_by (λ flag. eq_by_cmp (slice_cm
 -- no order makes this a list of compiled flags
 abbrev pub AreNoFlags : List Flag → Type 0
 AreNoFlags list = HasTwins list ⊎ Any (λ flag. IsLawful flag → ⊥) list
-
--- some row's key isn't below the next one's
-abbrev pub SomeStepDown : {K Y : Type 0} → (K → K → Ordering) → (Y → K) → List Y → Type 0
-SomeStepDown {K} {Y} cmp key list =
-    (k : ℕ) × (k + 1 < length list)
-    × ((d : Y) → is_lt (cmp (key (slice_index_or list k d)) (key (slice_index_or list (k + 1) d))) ≡ false)

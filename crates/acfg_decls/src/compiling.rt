@@ -2,7 +2,8 @@
 
 ghost use Rattle.std.specs.Prelude.{◌≡◌, ◌+◌, ◌<◌, ◌^◌, ◌++◌, [], length, map, IfOk, IfErr, OnOk, All};
 ghost use Rattle.std.specs.List.{AllByRecursion, flat_map};
-ghost use Rattle.acfg_decls.specs.Compile.{Compiles, FailsToCompile, FirstFailsIn, Holds, IfIn, declarations_tests};
+ghost use Rattle.acfg_decls.specs.Compile.{Compiles, FailsToCompile, FirstFailsIn, Holds, IfIn};
+ghost use Rattle.acfg_decls.specs.Compile.{all_tests, declarations_tests};
 ghost use Rattle.acfg_decls.specs.Compile.{declared, file_tests, flag_of, sourced};
 ghost use Rattle.acfg_decls.specs.Flags.{IsLawful};
 ghost use Rattle.acfg_decls.specs.Places.{Finds, WhereMade, names};
@@ -36,7 +37,7 @@ pub fn compile(
 ) -> Result<Flags, CompileFault>
     ensures ok { IfOk result (Compiles «package».now container.now declarations.now values.now) }
     ensures err { IfErr result (λ fault.
-        IfIn fault (FailsToCompile «package».now container.now declarations.now values.now)) }
+        IfIn fault (FailsToCompile (all_tests «package».now container.now declarations.now values.now))) }
 {
     let mut list = with_room(alloc, declarations)?;
     let mut places = HashMap::new(alloc);

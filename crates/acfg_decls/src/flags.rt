@@ -6,9 +6,9 @@ ghost use Rattle.std.specs.Bool.{MatchBool};
 ghost use Rattle.std.specs.Cmp.Lexicographic.{slice_cmp};
 ghost use Rattle.std.specs.FinMap.{len};
 ghost use Rattle.std.specs.Ordering.{nat_cmp};
-ghost use Rattle.acfg_base.specs.Places.{AreInOrder};
+ghost use Rattle.acfg_base.specs.Places.{AreInOrder, SomeStepDown};
 ghost use Rattle.acfg_decls.specs.Releases.{entry_of, kind_of, release};
-ghost use Rattle.acfg_decls.specs.Flags.{AreFlags, AreNoFlags, IsLawful, full_name, SomeStepDown};
+ghost use Rattle.acfg_decls.specs.Flags.{AreFlags, AreNoFlags, IsLawful, full_name};
 
 use crate::order::compare_joined;
 use acfg_base::{

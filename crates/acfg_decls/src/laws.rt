@@ -17,19 +17,20 @@ pub fn one_compiling()
         → flags ≡ other }
     ensures fails { («package» container : List ℕ) (files : List DeclarationsFile) (values : List ValuesFile)
         (file place other_file other_place : ℕ) (fault other : DeclWhat)
-        → FailsToCompile «package» container files values file place fault
-        → FailsToCompile «package» container files values other_file other_place other
+        → FailsToCompile (all_tests «package» container files values) file place fault
+        → FailsToCompile (all_tests «package» container files values) other_file other_place other
         → (file ≡ other_file) × (place ≡ other_place) × (fault ≡ other) }
     ensures apart { («package» container : List ℕ) (files : List DeclarationsFile) (values : List ValuesFile)
         (flags : List Flag) (file place : ℕ) (fault : DeclWhat)
         → Compiles «package» container files values flags
-        → FailsToCompile «package» container files values file place fault → ⊥ }
+        → FailsToCompile (all_tests «package» container files values) file place fault → ⊥ }
     ensures some { («package» container : List ℕ) (files : List DeclarationsFile) (values : List ValuesFile)
         → AllByRecursion (AllByRecursion Holds) (all_tests «package» container files values)
         → (flags : List Flag) × Compiles «package» container files values flags }
     ensures either { («package» container : List ℕ) (files : List DeclarationsFile) (values : List ValuesFile)
         → ((flags : List Flag) → Compiles «package» container files values flags → ⊥)
-        → ((file place : ℕ) (fault : DeclWhat) → FailsToCompile «package» container files values file place fault → ⊥)
+        → ((file place : ℕ) (fault : DeclWhat)
+        → FailsToCompile (all_tests «package» container files values) file place fault → ⊥)
         → ⊥ }
     ensures few { («package» container : List ℕ) (files : List DeclarationsFile) (values : List ValuesFile)
         (flags : List Flag)

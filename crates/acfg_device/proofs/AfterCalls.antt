@@ -6,7 +6,7 @@ use Rattle.std.proofs.Common.{◌≡◌, ◌≢◌, ◌⊎◌, inl, inr, ℕ, Li
 use Rattle.std.specs.Map.{update}
 use Rattle.std.specs.Option.{option_map}
 use Rattle.std.specs.Str.{bytes_eq}
-use Rattle.acfg_device.specs.Calls.{after_write, after_write_at, after_sync, after_rename, after_remove, after_sync_names, without, new_file, overwritten, synced}
+use Rattle.acfg_device.specs.Calls.{after_write, after_write_at, after_sync, after_rename, after_remove, without, new_file, overwritten, synced}
 use Rattle.acfg_device.specs.Disk.{Within, File, Names, Change, Made, Moved, Disk, told, undone, MayHold, MayStand, KeepsNames, KeepsSome, MayLeave, IsSynced, IsSettled}
 use Rattle.acfg_device.specs.Left.{SameBut, LeftBut, NotMovedTo, ChangesAlone}
 use Rattle.acfg_device.specs.Panel.{Files}
@@ -97,9 +97,6 @@ abbrev pub Either : List ℕ → List ℕ → List ℕ → Type 0
 Either first second name = (name ≡ first) ⊎ (name ≡ second)
 
 module _ (disk : Disk) (from to : List ℕ) (files : Files) (said : List ℕ) where
-  without_from : Names
-  without_from = update bytes_eq disk.names from None
-
   moved_back : from ≢ to → undone (Moved from to (disk.names to)) (after_rename disk from to).names ≡ disk.names
   moved_back apart = functions (undone (Moved from to (disk.names to)) (after_rename disk from to).names) disk.names each
     where
@@ -140,16 +137,6 @@ module _ (disk : Disk) (from to : List ℕ) (files : Files) (said : List ℕ) wh
         same = λ name apart. one.2 name (λ there. apart (inr there)) ∙ two.2 name (λ here. apart (inl here));
       }
 
-  -- and the file that was moved stands under its new name
-  pub rename_moves : KeepsNames (after_rename disk from to).names files → MayStand (disk.names from) (files to)
-  rename_moves keeps = subst (λ (file : Option File). MayStand file (files to)) (update_here (update bytes_eq disk.names from None) to (disk.names from)) (keeps to)
-
--- ---- all names
-
--- after the names were synced a cut keeps them all
-pub sync_names_leaves : (disk : Disk) (files : Files) (said : List ℕ) → MayLeave (after_sync_names disk) files said → KeepsNames disk.names files
-sync_names_leaves disk files said leaves = leaves.under
-
 -- ---- one step behind another
 
 pub same_but_join : (first second changed : List ℕ → Type 0) (before middle after : Files) → ((name : List ℕ) → first name → changed name) → ((name : List ℕ) → second name → changed name)
@@ -186,16 +173,6 @@ module _ (disk : Disk) (name other : List ℕ) (free : NotMovedTo disk.pending o
       by_file None = free
       by_file (Some file) = free
 
-  pub free_remove : NotMovedTo (after_remove disk name).pending other
-  free_remove = by_file (disk.names name)
-    where
-      by_file : (was : Option File) → NotMovedTo (without disk name was).pending other
-      by_file None = free
-      by_file (Some file) = free
-
-  pub free_rename : (to : List ℕ) → to ≢ other → NotMovedTo (after_rename disk name to).pending other
-  free_rename to apart = (apart, free)
-
 -- ---- synced files
 
 -- each file is synced
@@ -207,20 +184,3 @@ all_synced_update names name file all here other = elim (same_name name other) [
   | inl same ↦ subst (λ (f : Option File). IfSome f (λ (g : File). IsSynced g.loose)) (sym (ap (update bytes_eq names name file) same ∙ update_here names name file)) here
   | inr apart ↦ subst (λ (f : Option File). IfSome f (λ (g : File). IsSynced g.loose)) (sym (update_apart names name file other apart)) (all other)
 ]
-
--- each file but one
-abbrev pub SyncedBut : List ℕ → Names → Type 0
-SyncedBut name names = (other : List ℕ) → other ≢ name → IfSome (names other) (λ (file : File). IsSynced file.loose)
-
-pub synced_but_update : (names : Names) (name : List ℕ) (file : Option File) → AllSynced names → SyncedBut name (update bytes_eq names name file)
-synced_but_update names name file all other apart = subst (λ (f : Option File). IfSome f (λ (g : File). IsSynced g.loose)) (sym (update_apart names name file other apart)) (all other)
-
-pub all_synced_sync : (disk : Disk) (name : List ℕ) → SyncedBut name disk.names → AllSynced (after_sync disk name).names
-all_synced_sync disk name all other = elim (same_name name other) [
-  | inl same ↦ subst (λ (f : Option File). IfSome f (λ (g : File). IsSynced g.loose)) (sym (ap (after_sync disk name).names same ∙ update_here disk.names name (option_map synced (disk.names name)))) (is_synced (disk.names name))
-  | inr apart ↦ subst (λ (f : Option File). IfSome f (λ (g : File). IsSynced g.loose)) (sym (update_apart disk.names name (option_map synced (disk.names name)) other apart)) (all other apart)
-]
-  where
-    is_synced : (file : Option File) → IfSome (option_map synced file) (λ (g : File). IsSynced g.loose)
-    is_synced None = tt
-    is_synced (Some file) = λ place. refl

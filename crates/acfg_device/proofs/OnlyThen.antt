@@ -1,9 +1,7 @@
 -- One call behind another, where each only reads, only says or only changes some files. A function of such
 -- calls mostly needs none of these, since `search` opens the words; they serve answers of loops, as
 --     says = says_then so_far.says (reads_says c.read.ensures.reads) (λ fault. fault);
-use Rattle.std.proofs.Common.{◌≤◌, ◌++◌, ℕ, List, [], sym, ◌∙◌, ap, arith, append_assoc}
-use Rattle.std.proofs.lemmas.List.{append-nil}
-use Rattle.acfg_device.specs.Account.{Account}
+use Rattle.std.proofs.Common.{◌≤◌, ◌++◌, ℕ, List, [], ◌∙◌, ap, arith, append_assoc}
 use Rattle.acfg_device.specs.Only.{OnlyChanges, OnlyReads, OnlySays}
 use Rattle.acfg_device.specs.Panel.{Files, Rose}
 use Rattle.acfg_device.specs.declared.panel.Panel.{Ghosts}
@@ -45,17 +43,6 @@ module _ {P : Type 0} {panel : Ghosts P} {first second third : P} {one two fails
   }
 
 module _ {P : Type 0} {panel : Ghosts P} {first second : P} {fails : Type 0} where
-  -- who only reads, only says
-  pub reads_says : OnlyReads panel first second fails → OnlySays panel first second fails
-  reads_says reads = record {
-    files = reads.files;
-    names = ap (λ (account : Account). account.now.names) reads.account;
-    pending = ap (λ (account : Account). account.now.pending) reads.account;
-    words = λ told. ([], reads.said ∙ sym (append-nil (panel.said first)));
-    count = reads.count;
-    failed = reads.failed;
-  }
-
   -- and changes nothing
   pub reads_changes : (changed : List ℕ → Type 0) → OnlyReads panel first second fails → OnlyChanges panel changed first second fails
   reads_changes changed reads = record {

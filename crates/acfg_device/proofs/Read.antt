@@ -5,7 +5,7 @@ use Rattle.std.proofs.Common.{◌≡◌, inl, inr, ℕ, List, Option, Some, None
 use Rattle.std.specs.Map.{update}
 use Rattle.std.specs.Option.{option_map}
 use Rattle.std.specs.Str.{bytes_eq}
-use Rattle.acfg_device.specs.Calls.{after_write, after_write_at, after_sync, after_rename, after_remove, without, new_file, overwritten, synced, spliced}
+use Rattle.acfg_device.specs.Calls.{after_write, after_sync, after_rename, new_file, synced}
 use Rattle.acfg_device.specs.Disk.{File, Names, Disk, told}
 use Rattle.acfg_device.specs.Panel.{Files}
 use Rattle.acfg_device.proofs.Naming.{same_name, functions, update_here, update_apart, update_same}
@@ -32,26 +32,12 @@ module _ (disk : Disk) (name : List ℕ) where
   pub told_write : (bytes : List ℕ) → told (after_write disk name bytes) ≡ update bytes_eq (told disk) name (Some bytes)
   told_write bytes = read_update disk.names name (Some (new_file bytes))
 
-  pub told_write_at : (at : ℕ) (bytes : List ℕ) → told (after_write_at disk name at bytes) ≡ update bytes_eq (told disk) name (option_map (λ (held : List ℕ). spliced held at bytes) (told disk name))
-  told_write_at at bytes = read_update disk.names name (option_map (overwritten at bytes) (disk.names name)) ∙ ap (update bytes_eq (told disk) name) (written (disk.names name))
-    where
-      written : (file : Option File) → bytes_of (option_map (overwritten at bytes) file) ≡ option_map (λ (held : List ℕ). spliced held at bytes) (bytes_of file)
-      written None = refl
-      written (Some file) = refl
-
   pub told_sync : told (after_sync disk name) ≡ told disk
   told_sync = read_update disk.names name (option_map synced (disk.names name)) ∙ update_same (told disk) name (bytes_of (option_map synced (disk.names name))) (same (disk.names name))
     where
       same : (file : Option File) → bytes_of file ≡ bytes_of (option_map synced file)
       same None = refl
       same (Some file) = refl
-
-  pub told_remove : told (after_remove disk name) ≡ update bytes_eq (told disk) name None
-  told_remove = by_file (disk.names name) refl
-    where
-      by_file : (file : Option File) → disk.names name ≡ file → told (without disk name file) ≡ update bytes_eq (told disk) name None
-      by_file None is = sym (update_same (told disk) name None (ap bytes_of is))
-      by_file (Some file) is = read_update disk.names name None
 
 pub told_rename : (disk : Disk) (from to : List ℕ) → told (after_rename disk from to) ≡ update bytes_eq (update bytes_eq (told disk) from None) to (told disk from)
 told_rename disk from to =

@@ -6,11 +6,11 @@ use Rattle.std.proofs.Common.{◌≡◌, inl, inr, ℕ, List, [], Option, Some, 
 use Rattle.std.specs.Map.{update}
 use Rattle.std.specs.Option.{option_map}
 use Rattle.std.specs.Str.{bytes_eq}
-use Rattle.acfg_device.specs.Calls.{after_write, after_write_at, after_sync, after_rename, after_remove, after_sync_names, after_say, without, new_file, overwritten, synced}
+use Rattle.acfg_device.specs.Calls.{after_write, after_sync, after_rename, new_file, synced}
 use Rattle.acfg_device.specs.Disk.{Change, Disk, File, IsSettled, IsSynced, KeepsNames, MayLeave, told}
 use Rattle.acfg_device.specs.Left.{IsReady, IsSyncedAt, NotMovedTo}
 use Rattle.acfg_device.specs.Panel.{Files}
-use Rattle.acfg_device.proofs.AfterCalls.{all_synced_sync, all_synced_update, free_write, synced_but_update}
+use Rattle.acfg_device.proofs.AfterCalls.{all_synced_update, free_write}
 use Rattle.acfg_device.proofs.Cuts.{synced_file}
 use Rattle.acfg_device.proofs.Naming.{functions, same_name, update_apart, update_here}
 
@@ -60,9 +60,6 @@ settled_ready disk settled = record {
   free = λ name. subst (λ (pending : List Change). NotMovedTo pending name) (sym settled.kept) tt;
 }
 
-pub ready_settled : (disk : Disk) → IsReady disk → disk.pending ≡ [] → IsSettled disk
-ready_settled disk ready none = record { kept = none; synced = ready.synced }
-
 pub ready_written : (disk : Disk) (name bytes : List ℕ) → IsReady disk → IsReady (after_sync (after_write disk name bytes) name)
 ready_written disk name bytes ready = record {
   synced = λ other. synced_written disk name bytes other (ready.synced other);
@@ -71,25 +68,3 @@ ready_written disk name bytes ready = record {
 
 pub synced_renamed : (disk : Disk) (from to : List ℕ) → ((name : List ℕ) → IsSyncedAt disk name) → (name : List ℕ) → IsSyncedAt (after_rename disk from to) name
 synced_renamed disk from to all = all_synced_update (update bytes_eq disk.names from None) to (disk.names from) (all_synced_update disk.names from None all tt) (all from)
-
-pub settled_sync : (disk : Disk) (name : List ℕ) → IsSettled disk → IsSettled (after_sync disk name)
-settled_sync disk name settled = record { kept = settled.kept; synced = λ other. synced_sync disk name other (settled.synced other) }
-
-pub settled_names : (disk : Disk) → IsSettled disk → IsSettled (after_sync_names disk)
-settled_names disk settled = record { kept = refl; synced = settled.synced }
-
-pub settled_removed : (disk : Disk) (name : List ℕ) → IsSettled disk → IsSettled (after_sync_names (after_remove disk name))
-settled_removed disk name settled = by_file (disk.names name)
-  where
-    by_file : (was : Option File) → IsSettled (after_sync_names (without disk name was))
-    by_file None = record { kept = refl; synced = settled.synced }
-    by_file (Some file) = record { kept = refl; synced = all_synced_update disk.names name None settled.synced tt }
-
-pub settled_written_at : (disk : Disk) (name : List ℕ) (at : ℕ) (bytes : List ℕ) → IsSettled disk → IsSettled (after_sync (after_write_at disk name at bytes) name)
-settled_written_at disk name at bytes settled = record {
-  kept = settled.kept;
-  synced = all_synced_sync (after_write_at disk name at bytes) name (synced_but_update disk.names name (option_map (overwritten at bytes) (disk.names name)) settled.synced);
-}
-
-pub settled_said : (disk : Disk) (bytes : List ℕ) → IsSettled disk → IsSettled (after_say disk bytes)
-settled_said disk bytes settled = record { kept = settled.kept; synced = settled.synced }

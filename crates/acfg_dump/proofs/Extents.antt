@@ -6,8 +6,9 @@ use Rattle.std.proofs.lemmas.List.Sums.{sum_by-cons, sum_by_push}
 use Rattle.std.proofs.lemmas.List.{take_more, take-append-drop, get_or-map, length-map}
 use Rattle.std.proofs.Math.Seq.{drop-cons}
 use lib.Dec.{eqb}
+use Rattle.acfg_base.specs.Bytes.{plus}
 use Rattle.acfg_dump.specs.declared.conditions.Condition.{Condition}
-use Rattle.acfg_dump.specs.Filter.{extent, pieces, plus, IsCondition}
+use Rattle.acfg_dump.specs.Filter.{extent, pieces, IsCondition}
 
 -- what texts are
 abbrev pub words : List (Bor (List ℕ)) → List (List ℕ)

@@ -17,10 +17,6 @@ map_same : (xs : List (List ℕ)) → map (λ x. x) xs ≡ xs
 map_same [] = refl
 map_same (x ∷ xs) = ap (λ t. x ∷ t) (map_same xs)
 
-pub join_first : (c : ℕ) (xs : List (List ℕ)) (x : List ℕ) → 0 < length xs → x ≡ get_or xs 0 x
-    → join_with_byte c xs ≡ x ++ flat_map (λ y. c ∷ y) (drop 1 xs)
-join_first c xs x some first = ap (join_with_byte c) (sym (map_same xs)) ∙ join_mapped (λ y. y) c xs x some first
-
 -- what is put behind a text: the first one, and the others with the byte in front
 pub put_joined : {X : Type 0} (f : X → List ℕ) (c : ℕ) (xs others : List X) (x : X) (old mid new : List ℕ) → 0 < length xs → x ≡ get_or xs 0 x → others ≡ drop 1 xs
     → mid ≡ old ++ f x → new ≡ mid ++ flat_map (λ y. c ∷ f y) others → new ≡ old ++ join_with_byte c (map f xs)

@@ -7,6 +7,7 @@ use Rattle.std.proofs.lemmas.Bool.{eq-eqb}
 use Rattle.std.proofs.lemmas.List.Elements.{All-cons, All-nil}
 use Rattle.std.proofs.lemmas.List.Sums.{AllPass-from_list_all}
 use lib.Dec.{eqb}
+use Rattle.acfg_base.specs.Bytes.{colon}
 use Rattle.acfg_dump.specs.declared.conditions.Condition.{Condition}
 use Rattle.acfg_dump.specs.declared.conditions.Condition.TheVariants.{Has, Is}
 use Rattle.acfg_dump.specs.declared.conditions.Fact.{Fact}
@@ -16,7 +17,7 @@ use Rattle.acfg_dump.specs.declared.conditions.Key.TheVariants as key
 use Rattle.acfg_dump.specs.declared.fault.DumpFault.{DumpFault}
 use Rattle.acfg_dump.specs.declared.fault.DumpFault.TheVariants as fault
 use Rattle.acfg_dump.specs.Bodies.{AlternativesFail, ConditionsFail, IsCutAt, IsWithout}
-use Rattle.acfg_dump.specs.Filter.{colon, condition_text, condition_texts, extent, fact_name, fact_word, key_name, FilterFails, HasValue, IsBadAmong, IsBadCondition, IsCondition, IsFilter, IsFirstBad, IsSome}
+use Rattle.acfg_dump.specs.Filter.{condition_text, condition_texts, extent, fact_name, fact_word, key_name, FilterFails, HasValue, IsBadAmong, IsBadCondition, IsCondition, IsFilter, IsFirstBad, IsSome}
 use Rattle.acfg_dump.proofs.Firsts.{cut_unique, first_unique, never_cut, All-middle}
 
 -- the key of a name that is one

@@ -1,18 +1,19 @@
 -- The parts of a template by the bytes that each begins with.
-use Rattle.std.proofs.Common.{◌≡◌, ◌≢◌, ℕ, ◌<◌, Bool, true, false, not, ◌&&◌, get_or, if◌then◌else◌, List, [], ◌∷◌, ◌++◌, length, drop, codes, refl, sym, ap, ◌∙◌, All, append_assoc, arith}
+use Rattle.std.proofs.Common.{◌≡◌, ◌≢◌, ℕ, ◌<◌, Bool, true, false, not, ◌&&◌, if◌then◌else◌, List, [], ◌∷◌, ◌++◌, length, codes, refl, sym, ap, ◌∙◌, All, append_assoc, arith}
 use Rattle.std.specs.List.{flat_map, list_all}
 use Rattle.std.specs.Str.{bytes_eq}
-use Rattle.std.proofs.lemmas.Bool.{eq-eqb, eqb-true}
+use Rattle.std.proofs.lemmas.Bool.{eq-eqb}
 use Rattle.std.proofs.lemmas.List.Sums.{AllPass-from_list_all}
 use lib.Dec.{eqb}
+use Rattle.acfg_base.specs.Bytes.{open_brace, close_brace}
 use Rattle.acfg_dump.specs.declared.parts.Part.{Part}
 use Rattle.acfg_dump.specs.declared.parts.Part.TheVariants.{Byte, Value}
 use Rattle.acfg_dump.specs.declared.parts.Placeholder.{Placeholder}
 use Rattle.acfg_dump.specs.declared.parts.Placeholder.TheVariants as placeholder
-use Rattle.acfg_dump.specs.Bodies.{begins, closed_name, BeginsNone, IsCutAt, IsWithout}
-use Rattle.acfg_dump.specs.Parts.{close_brace, is_brace, open_brace, placeholder_name, spelled}
+use Rattle.acfg_dump.specs.Bodies.{closed_name, BeginsNone, IsCutAt, IsWithout}
+use Rattle.acfg_dump.specs.Parts.{is_brace, placeholder_name, spelled}
 use Rattle.acfg_dump.specs.Template.{template_of, IsBadPlace, IsTemplate}
-use Rattle.acfg_dump.proofs.Firsts.{cut_unique, never_cut}
+use Rattle.acfg_dump.proofs.Firsts.{cut_unique}
 
 -- the placeholder of a name that is one
 named : List ℕ → Placeholder
@@ -170,40 +171,6 @@ one_bad_place (part ∷ parts) (one ∷ before) x behind some first more none sa
     let front = spelled_front part one _ _ (sym (append_assoc (spelled part) (flat_map spelled parts) x) ∙ same ∙ append_assoc (spelled one) (flat_map spelled before) behind) in
     let rest = one_bad_place parts before x behind some first more none front.1 in
     λ j. front.0 j ∷ rest j
-
--- behind a brace that isn't given twice
-pub none_open : (text : List ℕ) → begins open_brace text ≡ false → BeginsNone closed_name text → BeginsNone spelled (open_brace ∷ text)
-none_open text once none (Byte n) rest same = open_byte n (is_brace n) refl same
-  where
-    open_byte : (n : ℕ) (p : Bool) → is_brace n ≡ p → open_brace ∷ text ≡ (if p then n ∷ n ∷ [] else n ∷ []) ++ rest → ⊥
-    open_byte n true is same =
-        let head : n ≡ open_brace = cc in
-        let tail : text ≡ n ∷ rest = cc in
-        let yes : begins open_brace text ≡ true = ap (begins open_brace) (tail ∙ ap (λ b. b ∷ rest) head) in
-        let no : true ≡ false = sym yes ∙ once in cc
-    open_byte n false is same = let head : n ≡ open_brace = cc in let no : true ≡ false = ap is_brace (sym head) ∙ is in cc
-none_open text once none (Value value) rest same = let tail : text ≡ closed_name value ++ rest = cc in none value rest tail
-
-pub none_close : (text : List ℕ) → begins close_brace text ≡ false → BeginsNone spelled (close_brace ∷ text)
-none_close text once (Byte n) rest same = close_byte n (is_brace n) refl same
-  where
-    close_byte : (n : ℕ) (p : Bool) → is_brace n ≡ p → close_brace ∷ text ≡ (if p then n ∷ n ∷ [] else n ∷ []) ++ rest → ⊥
-    close_byte n true is same =
-        let head : n ≡ close_brace = cc in
-        let tail : text ≡ n ∷ rest = cc in
-        let yes : begins close_brace text ≡ true = ap (begins close_brace) (tail ∙ ap (λ b. b ∷ rest) head) in
-        let no : true ≡ false = sym yes ∙ once in cc
-    close_byte n false is same = let head : n ≡ close_brace = cc in let no : true ≡ false = ap is_brace (sym head) ∙ is in cc
-none_close text once (Value value) rest same = let head : close_brace ≡ open_brace = ap (λ (bytes : List ℕ). get_or bytes 0 0) same in omega arith
-
--- a text that begins with a byte is it and the rest
-pub begins_is : (byte : ℕ) (text : List ℕ) → begins byte text ≡ true → text ≡ byte ∷ drop 1 text
-begins_is byte [] is = cc
-begins_is byte (first ∷ rest) is = ap (λ b. b ∷ rest) (eqb-true _ _ is)
-
--- a text without a closing brace begins with no placeholder
-pub never_closed : (text : List ℕ) → IsWithout close_brace text → BeginsNone closed_name text
-never_closed text without value rest same = never_cut close_brace text (placeholder_name value) rest without (same ∙ closed value rest)
 
 -- nor does one whose name is none
 pub never_named : (text before behind : List ℕ) → IsCutAt close_brace text before behind → ((value : Placeholder) → before ≡ placeholder_name value → ⊥) → BeginsNone closed_name text

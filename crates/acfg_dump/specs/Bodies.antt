@@ -1,14 +1,11 @@
 -- Words of private bodies: no public clause cites them.
-use Rattle.std.specs.Prelude.{◌≡◌, ◌≢◌, ◌==◌, ℕ, Bool, false, List, [], ◌∷◌, ◌++◌, All, Option, MatchOption}
+use Rattle.std.specs.Prelude.{◌≡◌, ◌≢◌, ◌==◌, ℕ, Bool, false, List, [], ◌∷◌, ◌++◌, All}
+use Rattle.acfg_base.specs.Bytes.{close_brace}
 use Rattle.acfg_dump.specs.declared.fault.DumpFault.{DumpFault}
 use Rattle.acfg_dump.specs.declared.fault.DumpFault.TheVariants.{BadPlaceholder, BadFilter, OutOfMemory}
 use Rattle.acfg_dump.specs.declared.parts.Placeholder.{Placeholder}
 use Rattle.acfg_dump.specs.Filter.{IsBadAmong, IsFirstBad}
-use Rattle.acfg_dump.specs.Parts.{close_brace, placeholder_name}
-
--- what is found is such a value, and there is none where nothing is found
-abbrev pub Finds : {A : Type 0} → (A → Type 0) → Option A → Type 0
-Finds {A} P found = MatchOption found ((x : A) → P x → ⊥) P
+use Rattle.acfg_dump.specs.Parts.{placeholder_name}
 
 -- the text begins with what none of the values is spelled as
 abbrev pub BeginsNone : {A : Type 0} → (A → List ℕ) → List ℕ → Type 0

@@ -4,6 +4,8 @@ use Rattle.std.specs.Prelude.{◌≡◌, ◌≢◌, ◌<◌, ◌+◌, ◌==◌, 
 use Rattle.std.specs.Prelude.{List, [], ◌∷◌, ◌++◌, length, map, sum_by, All}
 use Rattle.std.specs.List.{AllZip, list_all, list_any, slice_split}
 use Rattle.std.specs.Str.{bytes_eq}
+use Rattle.acfg_base.specs.Bytes.{plus, comma, colon}
+use Rattle.acfg_base.specs.Words.{bool_word}
 use Rattle.acfg_decls.specs.declared.flags.Flag.{Flag}
 use Rattle.acfg_dump.specs.declared.conditions.Condition.{Condition}
 use Rattle.acfg_dump.specs.declared.conditions.Condition.TheVariants.{Has, Is}
@@ -13,17 +15,7 @@ use Rattle.acfg_dump.specs.declared.conditions.Key.{Key}
 use Rattle.acfg_dump.specs.declared.conditions.Key.TheVariants as key
 use Rattle.acfg_dump.specs.declared.fault.DumpFault.{DumpFault}
 use Rattle.acfg_dump.specs.declared.fault.DumpFault.TheVariants.{BadPlaceholder, BadFilter, OutOfMemory}
-use Rattle.acfg_dump.specs.Names.{bool_name, permission_name, state_name}
-
--- `+`, `,` and `:`
-abbrev pub plus : ℕ
-plus = 43
-
-abbrev pub comma : ℕ
-comma = 44
-
-abbrev pub colon : ℕ
-colon = 58
+use Rattle.acfg_dump.specs.Names.{permission_name, state_name}
 
 -- the keys of a flag's texts
 abbrev pub key_name : Key → List ℕ
@@ -44,8 +36,8 @@ fact_name fact.IsExported = codes "is_exported"
 abbrev pub fact_word : Fact → Bool → List ℕ
 fact_word fact.State so = state_name so
 fact_word fact.Permission so = permission_name so
-fact_word fact.IsFixedReadOnly so = bool_name so
-fact_word fact.IsExported so = bool_name so
+fact_word fact.IsFixedReadOnly so = bool_word so
+fact_word fact.IsExported so = bool_word so
 
 -- `KEY:VALUE`
 abbrev pub condition_text : Condition → List ℕ

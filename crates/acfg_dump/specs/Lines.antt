@@ -1,7 +1,8 @@
 -- The lines of a dump: a flag's values in the place of the placeholders of a template.
 use Rattle.std.specs.Prelude.{ℕ, Bool, List, [], ◌∷◌, ◌++◌, map, filter, codes}
 use Rattle.std.specs.List.{flat_map, join_with_byte}
-use Rattle.acfg_base.specs.Bytes.{line_feed}
+use Rattle.acfg_base.specs.Bytes.{line_feed, comma}
+use Rattle.acfg_base.specs.Words.{bool_word}
 use Rattle.acfg_decls.specs.Flags.{full_name}
 use Rattle.acfg_decls.specs.declared.flags.Flag.{Flag}
 use Rattle.acfg_decls.specs.declared.flags.Point.{Point}
@@ -10,8 +11,8 @@ use Rattle.acfg_dump.specs.declared.parts.Part.{Part}
 use Rattle.acfg_dump.specs.declared.parts.Part.TheVariants.{Byte, Value}
 use Rattle.acfg_dump.specs.declared.parts.Placeholder.{Placeholder}
 use Rattle.acfg_dump.specs.declared.parts.Placeholder.TheVariants as placeholder
-use Rattle.acfg_dump.specs.Filter.{comma, lets_through}
-use Rattle.acfg_dump.specs.Names.{bool_name, permission_name, purpose_name, state_name}
+use Rattle.acfg_dump.specs.Filter.{lets_through}
+use Rattle.acfg_dump.specs.Names.{permission_name, purpose_name, state_name}
 
 -- `SOURCE=STATE/PERMISSION`
 abbrev pub point_text : Point → List ℕ
@@ -26,10 +27,10 @@ value_text flag placeholder.Namespace = flag.namespace
 value_text flag placeholder.Description = flag.description
 value_text flag placeholder.Bug = join_with_byte comma flag.bugs
 value_text flag placeholder.State = state_name flag.enabled
-value_text flag placeholder.StateBool = bool_name flag.enabled
+value_text flag placeholder.StateBool = bool_word flag.enabled
 value_text flag placeholder.Permission = permission_name flag.writable
-value_text flag placeholder.IsFixedReadOnly = bool_name flag.fixed
-value_text flag placeholder.IsExported = bool_name flag.exported
+value_text flag placeholder.IsFixedReadOnly = bool_word flag.fixed
+value_text flag placeholder.IsExported = bool_word flag.exported
 value_text flag placeholder.Container = flag.container
 value_text flag placeholder.Purpose = purpose_name flag.purpose
 value_text flag placeholder.Trace = join_with_byte comma (map point_text flag.trace)

@@ -9,9 +9,6 @@ permission_name writable = if writable then codes "READ_WRITE" else codes "READ_
 abbrev pub state_name : Bool → List ℕ
 state_name enabled = if enabled then codes "ENABLED" else codes "DISABLED"
 
-abbrev pub bool_name : Bool → List ℕ
-bool_name so = if so then codes "true" else codes "false"
-
 -- nothing where there is no metadata
 abbrev pub purpose_name : Option Purpose → List ℕ
 purpose_name None = []

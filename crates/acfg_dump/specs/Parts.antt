@@ -1,16 +1,10 @@
 -- The parts of a template and the text of each: raw bytes, where a brace is given twice, and placeholders.
 use Rattle.std.specs.Prelude.{ℕ, ◌==◌, ◌||◌, Bool, if◌then◌else◌, List, [], ◌∷◌, ◌++◌, map, codes}
+use Rattle.acfg_base.specs.Bytes.{open_brace, close_brace}
 use Rattle.acfg_dump.specs.declared.parts.Part.{Part}
 use Rattle.acfg_dump.specs.declared.parts.Part.TheVariants.{Byte, Value}
 use Rattle.acfg_dump.specs.declared.parts.Placeholder.{Placeholder}
 use Rattle.acfg_dump.specs.declared.parts.Placeholder.TheVariants as placeholder
-
--- `{` and `}`
-abbrev pub open_brace : ℕ
-open_brace = 123
-
-abbrev pub close_brace : ℕ
-close_brace = 125
 
 abbrev pub is_brace : ℕ → Bool
 is_brace byte = (byte == open_brace) || (byte == close_brace)

@@ -3,8 +3,10 @@
 ghost use Rattle.std.specs.Prelude.{◌≡◌, ◌∷◌, ◌++◌, IfOk, MatchOption};
 ghost use Rattle.std.specs.List.{list_any};
 ghost use Rattle.std.specs.Str.{bytes_eq};
-ghost use Rattle.acfg_dump.specs.Bodies.{Finds, IsCutAt, IsWithout};
-ghost use Rattle.acfg_dump.specs.Filter.{colon, fact_name, fact_of, fact_word, holds, key_name, texts_of};
+ghost use Rattle.acfg_base.specs.Bytes.{colon};
+ghost use Rattle.acfg_base.specs.Found.{Finds};
+ghost use Rattle.acfg_dump.specs.Bodies.{IsCutAt, IsWithout};
+ghost use Rattle.acfg_dump.specs.Filter.{fact_name, fact_of, fact_word, holds, key_name, texts_of};
 ghost use Rattle.acfg_dump.specs.Filter.{IsCondition};
 
 use crate::values::{bool_name, permission_name, state_name};

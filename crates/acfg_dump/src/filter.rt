@@ -2,8 +2,9 @@
 
 ghost use Rattle.std.specs.Prelude.{◌≡◌, ◌+◌, ◌^◌, ◌<◌, ◌≤◌, [], ◌∷◌, length, map, IfErr, IfOk};
 ghost use Rattle.std.specs.List.{list_all, AllZip};
+ghost use Rattle.acfg_base.specs.Bytes.{plus};
 ghost use Rattle.acfg_dump.specs.Bodies.{AlternativesFail, ConditionsFail};
-ghost use Rattle.acfg_dump.specs.Filter.{extent, holds, lets_through, pieces, plus};
+ghost use Rattle.acfg_dump.specs.Filter.{extent, holds, lets_through, pieces};
 ghost use Rattle.acfg_dump.specs.Filter.{FilterFails, IsCondition, IsFilter};
 
 use crate::conditions::{Condition, holds, read_condition};

@@ -1,8 +1,10 @@
 //! The parts of a template, and how each is spelled.
 
 ghost use Rattle.std.specs.Prelude.{◌≡◌, ◌∷◌, ◌++◌, ◌<◌, MatchOption, length};
-ghost use Rattle.acfg_dump.specs.Bodies.{begins, closed_name, BeginsNone, Finds, IsCutAt, IsWithout};
-ghost use Rattle.acfg_dump.specs.Parts.{close_brace, open_brace, placeholder_name, spelled};
+ghost use Rattle.acfg_base.specs.Bytes.{open_brace, close_brace};
+ghost use Rattle.acfg_base.specs.Found.{Finds};
+ghost use Rattle.acfg_dump.specs.Bodies.{begins, closed_name, BeginsNone, IsCutAt, IsWithout};
+ghost use Rattle.acfg_dump.specs.Parts.{placeholder_name, spelled};
 
 /// A value of a flag, by the placeholder that stands for it in a template.
 #[derive(Clone, Copy, Debug, PartialEq, Eq)]

@@ -2,10 +2,11 @@
 
 ghost use Rattle.std.specs.Prelude.{◌≡◌, ◌∷◌, ◌++◌, OnOk, map};
 ghost use Rattle.std.specs.List.{flat_map, join_with_byte};
+ghost use Rattle.acfg_base.specs.Bytes.{comma};
+ghost use Rattle.acfg_base.specs.Words.{bool_word};
 ghost use Rattle.acfg_decls.specs.Flags.{full_name};
-ghost use Rattle.acfg_dump.specs.Filter.{comma};
 ghost use Rattle.acfg_dump.specs.Lines.{line, part_text, point_text, value_text};
-ghost use Rattle.acfg_dump.specs.Names.{bool_name, permission_name, purpose_name, state_name};
+ghost use Rattle.acfg_dump.specs.Names.{permission_name, purpose_name, state_name};
 
 use crate::parts::{Part, Placeholder};
 use acfg_base::Text;
@@ -28,7 +29,7 @@ pub fn state_name(enabled: bool) -> &'static str
 
 /// `true` or `false`.
 pub fn bool_name(so: bool) -> &'static str
-    ensures { result.now ≡ bool_name so }
+    ensures { result.now ≡ bool_word so }
 {
     if so { "true" } else { "false" }
 }

@@ -10,6 +10,7 @@ use Rattle.std.proofs.lemmas.List.Elements.{All-nil, All-cons, All-head, All-tai
 use Rattle.std.proofs.lemmas.List.Folds.{list_all_at}
 use Rattle.std.proofs.lemmas.Slice.Eq.{bytes_eq-Decides}
 use Rattle.std.proofs.Math.ListN.{get_or-map}
+use Rattle.acfg_base.specs.Release.{is_read_write}
 use Rattle.acfg_views.specs.Layout.{Package, Flag}
 use Rattle.acfg_views.specs.Reading.{OpenList, byte_in}
 use Rattle.acfg_views.specs.Parts.{parts_of, list_parts_of}
@@ -20,7 +21,7 @@ use Rattle.acfg_images.specs.declared.fault.Point2.TheVariants.{Container, Id, C
 use Rattle.acfg_images.specs.declared.fault.Point2.TheVariants as on
 use Rattle.acfg_images.specs.declared.fault.ImageFault.TheVariants.{Bits, Disagree}
 use Rattle.acfg_images.specs.Words.{least, AreNumbered}
-use Rattle.acfg_images.specs.Set.{SetParts, IsInfo, Agree, index_of, has_read_write, is_read_write}
+use Rattle.acfg_images.specs.Set.{SetParts, IsInfo, Agree, index_of, has_read_write}
 use Rattle.acfg_images.specs.Faults.{Opened, or_else, is_info, bits_fault, container_fault, id_fault, count_fault, stray_id, package_fault, having, index_fault, same_bit, bit_fits, kind_fault, indexed_fault, disagreement}
 use Rattle.acfg_images.proofs.Least.{least-none, least-none_from}
 use Rattle.acfg_images.proofs.Pigeon.{AreNumbered-from_some, AreNumbered-below, some_counted, counted_some}

@@ -3,7 +3,7 @@ use Rattle.std.proofs.Common.{◌≡◌, ◌≢◌, ℕ, ◌+◌, ◌*◌, ◌<�
 use Rattle.std.specs.Option.{option_map}
 use Rattle.std.proofs.lemmas.Bool.{cases_eq}
 use Rattle.std.proofs.lemmas.Bool.Decides.{nat_tests}
-use Rattle.std.proofs.lemmas.List.{drop_all, get_or-set_same, get_or-set_other, length-set}
+use Rattle.std.proofs.lemmas.List.{get_or-set_same, get_or-set_other, length-set}
 use Rattle.std.proofs.Math.Nat.{mod-lt}
 use Rattle.std.proofs.Math.Seq.{drop-cons}
 use Rattle.acfg_sip.specs.Buckets.{hash}
@@ -21,9 +21,6 @@ Heads firsts links = (b : ℕ) → b < length firsts → get_or firsts b 0 ≡ f
 pub bucket-lt : (count : ℕ) (link : NodeLink) → 0 < count → HasBucket count link → link.bucket < count
 unfolding hash
 bucket-lt count link some has = let h = mod-lt _ some in subst (λ (b : ℕ). b < count) (sym has) h
-
-pub heads_none : (firsts : List ℕ) (links : List NodeLink) → ((b : ℕ) → b < length firsts → get_or firsts b 0 ≡ 0) → Heads firsts (drop (length links) links)
-heads_none firsts links zeros b lt = rw (drop_all (length links) links (omega arith)) (zeros b lt)
 
 -- the table, and the node at a place before what is behind it
 module _ (firsts after : List ℕ) (links : List NodeLink) (i j : ℕ) (d : NodeLink) (j_is : j ≡ i + 1) (lt : i < length links) (bucket : HasBucket (length firsts) (get_or links i d)) (below : (get_or links i d).bucket < length firsts)

@@ -1,22 +1,15 @@
 -- A set of keys beside the keys of earlier nodes.
-use Rattle.std.proofs.Common.{◌≡◌, ℕ, suc, ◌+◌, ◌<◌, ◌≤◌, Bool, true, false, cond, eqb, not, ◌&&◌, ◌||◌, List, [], ◌∷◌, ◌++◌, length, get_or, take, drop, map, Option, Some, None, Bor, Ordering, refl, sym, ap, subst, ◌∙◌, arith, rules, add-one}
-use Rattle.std.specs.List.{list_any}
+use Rattle.std.proofs.Common.{◌≡◌, ℕ, Bool, true, false, eqb, ◌&&◌, List, [], Option, Some, None, Bor, Ordering, refl, sym, ap, ◌∙◌, arith}
 use Rattle.std.specs.Str.{bytes_eq}
 use Rattle.std.specs.Ordering.{is_eq, nat_cmp, ordering_then}
 use Rattle.std.specs.Option.{option_cmp}
 use Rattle.std.specs.declared.cmp.Ordering.TheVariants.{Less, Equal, Greater}
 use Rattle.std.specs.Cmp.Lexicographic.{slice_cmp}
-use Rattle.std.specs.BTreeSet.{BTreeSet, contains, Updates}
 use Rattle.std.proofs.lemmas.Bool.Decides.{nat_tests}
 use Rattle.std.proofs.lemmas.Map.Text.{is_eq-slice_cmp}
 use Rattle.std.proofs.lemmas.Cmp.{nat_list_eq_equiv}
-use Rattle.std.proofs.lemmas.List.Folds.{list_any-append}
 use Rattle.std.proofs.lemmas.Slice.Eq.{bytes_eq-Decides}
-use Rattle.std.proofs.lemmas.List.{take_more, drop_all, map_push}
-use Rattle.std.proofs.Math.Seq.{drop-cons}
 use Rattle.acfg_images.specs.declared.links.NodeLink.{NodeLink}
-use Rattle.acfg_images.specs.Code.{HaveBuckets, links_of}
-use Rattle.acfg_images.specs.Faults.{twice_behind}
 use Rattle.acfg_images.specs.Links.{NodeKey, bucket_of, same_owner, same_key}
 
 -- what the set keeps of a key: its bucket too, by which most keys differ
@@ -99,72 +92,5 @@ kept_eq count k q in_k in_q =
     drop_first false true false h = refl
     drop_first false false c h = refl
 
--- the set has the keys of earlier nodes
-abbrev pub Has : ℕ → BTreeSet Kept → List NodeKey → Type 0
-Has count set earlier = (q : Kept) → InBucket count q → contains kept_cmp set q ≡ list_any (same_key (key_in q)) earlier
-
-cond_or : (b x : Bool) → cond b true x ≡ (x || (b || false))
-cond_or true true = refl
-cond_or true false = refl
-cond_or false true = refl
-cond_or false false = refl
-
-pub has_more : (count : ℕ) (set next : BTreeSet Kept) (earlier : List NodeKey) (k : Kept) → InBucket count k → Has count set earlier → Updates kept_cmp set next k true → Has count next (earlier ++ key_in k ∷ [])
-has_more count set next earlier k in_k has updates q in_q =
-    let found : contains kept_cmp next q ≡ cond (is_eq (kept_cmp k q)) true (contains kept_cmp set q) = updates.0 q in
-    found ∙ ap (λ (b : Bool). cond b true (contains kept_cmp set q)) (kept_eq count k q in_k in_q) ∙ cond_or (same_key (key_in q) (key_in k)) (contains kept_cmp set q)
-    ∙ ap (λ (b : Bool). b || (same_key (key_in q) (key_in k) || false)) (has q in_q) ∙ sym (list_any-append (same_key (key_in q)) earlier (key_in k ∷ []))
-
--- a link as the set keeps it
-abbrev pub kept_of : NodeLink → Kept
-kept_of link = (link.bucket, link.owner, link.name)
-
-abbrev pub keys_of : List NodeLink → List NodeKey
-keys_of links = map (λ link. key_in (kept_of link)) links
-
-pub has_none : (count : ℕ) (set : BTreeSet Kept) → set.keys ≡ [] → Has count set []
-has_none count set empty q in_q = search (rules, empty)
-
--- the loop goes on behind a node with a new key
-pub twice_next : (links : List NodeLink) (i : ℕ) (d : NodeLink) (total : Option ℕ) → i < length links
-    → twice_behind (keys_of (take i links)) (links_of (drop i links)) ≡ total → list_any (same_key (key_in (kept_of (get_or links i d)))) (keys_of (take i links)) ≡ false
-    → twice_behind (keys_of (take (i + 1) links)) (links_of (drop (i + 1) links)) ≡ total
-twice_next links i d total lt so_far new =
-    let link = get_or links i d in
-    let front : take (i + 1) links ≡ take i links ++ link ∷ [] = take_more links i d lt in
-    let back : drop i links ≡ link ∷ drop (suc i) links = drop-cons links i d lt in
-    let keys : keys_of (take (i + 1) links) ≡ keys_of (take i links) ++ key_in (kept_of link) ∷ [] = ap keys_of front ∙ map_push (λ l. key_in (kept_of l)) (take i links) link in
-    let here : twice_behind (keys_of (take i links)) (links_of (link ∷ drop (suc i) links)) ≡ twice_behind (keys_of (take i links) ++ key_in (kept_of link) ∷ []) (links_of (drop (suc i) links)) = rw new refl in
-    rw (keys, add-one) (sym here ∙ ap (λ (ls : List NodeLink). twice_behind (keys_of (take i links)) (links_of ls)) (sym back) ∙ so_far)
-
--- and ends at a node with an earlier key
-pub twice_ends : (links : List NodeLink) (i : ℕ) (d : NodeLink) (total : Option ℕ) → i < length links
-    → twice_behind (keys_of (take i links)) (links_of (drop i links)) ≡ total → list_any (same_key (key_in (kept_of (get_or links i d)))) (keys_of (take i links)) ≡ true
-    → Some (get_or links i d).at ≡ total
-twice_ends links i d total lt so_far known =
-    let link = get_or links i d in
-    let back : drop i links ≡ link ∷ drop (suc i) links = drop-cons links i d lt in
-    let here : twice_behind (keys_of (take i links)) (links_of (link ∷ drop (suc i) links)) ≡ Some link.at = rw known refl in
-    sym here ∙ ap (λ (ls : List NodeLink). twice_behind (keys_of (take i links)) (links_of ls)) (sym back) ∙ so_far
-
-pub twice_none : (links : List NodeLink) (i : ℕ) (total : Option ℕ) → length links ≤ i → twice_behind (keys_of (take i links)) (links_of (drop i links)) ≡ total → None ≡ total
-twice_none links i total le so_far = ap (λ (ls : List NodeLink). twice_behind (keys_of (take i links)) (links_of ls)) (sym (drop_all i links le)) ∙ so_far
-
-pub answer_false : (answer found : Bool) → answer ≡ not found → answer ≡ false → found ≡ true
-answer_false answer true is e = refl
-answer_false answer false is e = cc
-
-pub answer_true : (answer found : Bool) → answer ≡ not found → answer ≡ true → found ≡ false
-answer_true answer true is e = cc
-answer_true answer false is e = refl
-
-pub has_next : (links : List NodeLink) (i : ℕ) (d : NodeLink) (count : ℕ) (set next : BTreeSet Kept) → i < length links → HaveBuckets count links → Has count set (keys_of (take i links))
-    → Updates kept_cmp set next (kept_of (get_or links i d)) true → Has count next (keys_of (take (i + 1) links))
-has_next links i d count set next lt buckets has updates =
-    let link = get_or links i d in
-    let keys : keys_of (take (i + 1) links) ≡ keys_of (take i links) ++ key_in (kept_of link) ∷ [] = ap keys_of (take_more links i d lt) ∙ map_push (λ l. key_in (kept_of l)) (take i links) link in
-    subst (Has count next) (sym keys) (has_more count set next (keys_of (take i links)) (kept_of link) (buckets i d lt) has updates)
-
--- a link for a place where none is
 abbrev pub no_link : NodeLink
 no_link = record { at = 0; owner = None; name = record { ref_ptr = (0, 0); now = [] }; bucket = 0; next = 0 }

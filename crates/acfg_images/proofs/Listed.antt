@@ -131,10 +131,6 @@ module _ (purpose : Use) (files : Files) (parts : SetParts) (is : IsSetOf files 
       key : List ℕ → NodeKey
       key name = record { owner = None; name = name }
 
-  entries : List Entry
-  entries = map (λ flag. entry_of (listed_flag parts flag)) flags
-
-  -- no two flags have one package and name
   pub no_twin_entries : HasTwins (map (λ flag. entry_of (listed_flag parts flag)) (flags_of parts)) → ⊥
   no_twin_entries (key, more) =
       let f : Flag → Entry = λ flag. entry_of (listed_flag parts flag) in
@@ -180,9 +176,6 @@ listable purpose files opened is ends j d lt =
     }
 
 -- ---- the table of packages
-
-no_node : PackageNode
-no_node = record { name = record { ref_ptr = (0, 0); now = [] }; id = 0; start = 0; next = 0; end = 0 }
 
 -- what is found in a table
 module _ (opened : Opened) (table : List (Option PackageNode)) (has : HasPackages table (packages_in opened)) (id : ℕ) (within : id < length table) (node : PackageNode) (is : Some node ≡ slice_index_or table id None) where

@@ -10,10 +10,11 @@ use Rattle.std.proofs.lemmas.List.Kept.{AllPairs-cons}
 use Rattle.std.proofs.lemmas.List.Sorted.{IsPermutation-refl, IsPermutation-trans, IsPermutation-append_left, IsPermutation-append_right, IsPermutation-append_comm}
 use Rattle.std.proofs.lemmas.Slice.Eq.{bytes_eq-Decides}
 use Rattle.acfg_base.specs.Names.{IsName, IsPackage}
+use Rattle.acfg_base.specs.Release.{is_read_write}
 use Rattle.acfg_base.specs.declared.releases.Kind.{Kind}
 use Rattle.acfg_base.specs.declared.releases.Kind.TheVariants.{ReadWrite, ReadOnly, Fixed}
 use Rattle.acfg_views.specs.Layout.{Package, Flag}
-use Rattle.acfg_images.specs.Set.{SetParts, Listed, packages_of, package_with, start_of, listed_flag, has_read_write, is_read_write}
+use Rattle.acfg_images.specs.Set.{SetParts, Listed, packages_of, package_with, start_of, listed_flag, has_read_write}
 use Rattle.acfg_images.specs.Image.{Compiled, first_seen, flags_in, package_names}
 use Rattle.acfg_images.specs.Building.{Group, grown, grouped, total, all_flags, packages_from, flags_from, flag_nodes_from, value_byte, info_byte}
 use Rattle.acfg_images.proofs.Grouping.{group_in, groups_in, grouped_is, Distinct, Distinct-first_seen}

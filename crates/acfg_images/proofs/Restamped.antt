@@ -4,7 +4,6 @@ use Rattle.std.proofs.lemmas.List.{get_or-drop, length-append, length-drop, leng
 use Rattle.std.proofs.Math.ListN.{get_or-map}
 use Rattle.acfg_views.specs.Layout.{Flag, ListParts, list_header, list_header_size, list_size, list_file, IsListFile, IsPackageMapFile, IsFlagMapFile, flag_val_type, flag_info_type}
 use Rattle.acfg_views.specs.Reading.{byte_in}
-use Rattle.acfg_views.proofs.FileFacts.{length-list_header}
 use Rattle.acfg_images.specs.declared.purpose.Use.{Use}
 use Rattle.acfg_images.specs.declared.purpose.Use.TheVariants.{Copy}
 use Rattle.acfg_images.specs.Files.{Files, bytes_in_all}
@@ -18,10 +17,6 @@ use Rattle.acfg_images.proofs.Pigeon.{AreNumbered-below}
 module _ (file_type : ℕ) (file bytes new : List ℕ) (parts : ListParts) (is : IsListFile file_type file parts) (count : length new ≡ length parts.bytes) (made : bytes ≡ take (length file - length new) file ++ new) where
   header : List ℕ
   header = list_header parts.version parts.container file_type (list_size parts) (length parts.bytes) (list_header_size parts.container)
-
-  length-header : length header ≡ list_header_size parts.container
-  unfolding header
-  length-header = length-list_header parts.version parts.container file_type (list_size parts) (length parts.bytes) (list_header_size parts.container)
 
   file_is : file ≡ header ++ parts.bytes
   unfolding list_file header

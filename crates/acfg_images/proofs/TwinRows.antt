@@ -14,12 +14,13 @@ use Rattle.std.proofs.lemmas.List.{append-nil, drop_all, take_all, get_or_defaul
 use Rattle.std.proofs.lemmas.List.Elements.{Contains-get_or}
 use Rattle.std.proofs.lemmas.List.Folds.{list_any-append}
 use Rattle.std.proofs.lemmas.List.MinMax.{ranks_by}
-use Rattle.std.proofs.lemmas.List.Sorted.{sorted_far, length_permutation, Contains-permutation, IsPermutation-sym, sum_by-IsPermutation}
+use Rattle.std.proofs.lemmas.List.Sorted.{sorted_far, Contains-permutation, IsPermutation-sym, sum_by-IsPermutation}
+use Rattle.acfg_base.specs.Release.{kind_number}
 use Rattle.acfg_images.specs.declared.links.NodeLink.{NodeLink}
 use Rattle.acfg_images.specs.Code.{HaveBuckets, link_of, links_of}
 use Rattle.acfg_images.specs.Faults.{twice, twice_behind}
 use Rattle.acfg_views.specs.Fields.{number, string}
-use Rattle.acfg_views.specs.Layout.{Package, Flag, kind_number, package_node, flag_node}
+use Rattle.acfg_views.specs.Layout.{Package, Flag, package_node, flag_node}
 use Rattle.acfg_views.proofs.Exact.{length-number}
 use Rattle.acfg_views.proofs.FileFacts.{length-string}
 use Rattle.acfg_images.specs.Links.{NodeKey, Link, same_key, links_from, package_key, flag_node_key, package_links, flag_links}
@@ -186,12 +187,6 @@ has_twin rows n a le t = (
 module _ (links : List NodeLink) (count : ℕ) (buckets : HaveBuckets count links) (rise : Rise (links_of links)) (rows : List Row) (perm : IsPermutation (map row_of links) rows) (sorted : IsSorted row_cmp rows) where
   link : ℕ → NodeLink
   link j = get_or links j no_link
-
-  row : ℕ → Row
-  row p = get_or rows p blank_row
-
-  length_rows : length rows ≡ length links
-  length_rows = length_permutation (map row_of links) rows perm ∙ length-map links row_of
 
   rise_at : (i j : ℕ) → i < j → j < length links → (get_or links i no_link).at < (get_or links j no_link).at
   rise_at i j lt in' =

@@ -3,10 +3,11 @@ use Rattle.std.specs.Prelude.{◌≡◌, ℕ, ◌+◌, ◌⊎◌, ◌<◌, List,
 use Rattle.std.specs.Prelude.{slice_index, slice_set, Option, Some, None, Result, Ok, Err, if◌then◌else◌}
 use Rattle.std.specs.List.{list_all}
 use Rattle.std.specs.Option.{option_map}
+use Rattle.acfg_base.specs.Release.{is_read_write}
 use Rattle.acfg_views.specs.Layout.{Package, Flag}
 use Rattle.acfg_views.specs.Reading.{OpenList, byte_in}
 use Rattle.acfg_images.specs.Faults.{same_bit}
-use Rattle.acfg_images.specs.Set.{start_of, has_read_write, is_read_write}
+use Rattle.acfg_images.specs.Set.{start_of, has_read_write}
 use Rattle.acfg_images.specs.declared.fault.ImageFault.{ImageFault}
 use Rattle.acfg_images.specs.declared.fault.ImageFault.TheVariants.{OutOfMemory, Disagree}
 use Rattle.acfg_images.specs.declared.fault.Point2.TheVariants.{Kind}

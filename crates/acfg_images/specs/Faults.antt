@@ -6,6 +6,7 @@ use Rattle.std.specs.Prelude.{Some, None, Result, Ok, Err, if◌then◌else◌}
 use Rattle.std.specs.List.{list_any, list_all}
 use Rattle.std.specs.Option.{option_map}
 use Rattle.std.specs.Str.{bytes_eq}
+use Rattle.acfg_base.specs.Release.{is_read_write}
 use Rattle.acfg_views.specs.declared.fault.ViewFault.{ViewFault}
 use Rattle.acfg_views.specs.Fields.{numbers}
 use Rattle.acfg_views.specs.Layout.{Package, Flag, package_map_type, flag_map_type, flag_val_type}
@@ -24,7 +25,7 @@ use Rattle.acfg_images.specs.declared.purpose.Use.TheVariants.{Release, Copy}
 use Rattle.acfg_images.specs.Files.{Files, bytes_in_all}
 use Rattle.acfg_images.specs.Words.{least}
 use Rattle.acfg_images.specs.Links.{NodeKey, Link, same_key, bucket_of, first_in, package_links, flag_links}
-use Rattle.acfg_images.specs.Set.{MOST_BYTES, SetParts, index_of, has_read_write, is_read_write}
+use Rattle.acfg_images.specs.Set.{MOST_BYTES, SetParts, index_of, has_read_write}
 
 -- what comes of a step, where the one before it found no fault
 infixl 10 ◌>>=◌

@@ -3,6 +3,7 @@ use Rattle.std.specs.Prelude.{ℕ, zero, suc, ◌+◌, ◌*◌, List, [], ◌∷
 use Rattle.std.specs.Prelude.{unwrap_or, if◌then◌else◌}
 use Rattle.std.specs.List.{flat_map, enumerate_from}
 use Rattle.std.specs.Str.{bytes_eq}
+use Rattle.acfg_base.specs.Release.{is_read_write}
 use Rattle.acfg_base.specs.declared.releases.Kind.{Kind}
 use Rattle.acfg_sip.specs.Buckets.{size}
 use Rattle.acfg_views.specs.Layout.{VERSION, Package, Flag, package_node, flag_node, MapParts, map_header_size}
@@ -10,7 +11,7 @@ use Rattle.acfg_views.specs.Layout.{map_file, list_file, package_map_type, flag_
 use Rattle.acfg_views.specs.Layout.{flag_info_type}
 use Rattle.acfg_images.specs.Links.{NodeKey, package_key, flag_node_key, bucket_of, links_from, first_in}
 use Rattle.acfg_images.specs.Files.{Files}
-use Rattle.acfg_images.specs.Set.{SetParts, is_read_write}
+use Rattle.acfg_images.specs.Set.{SetParts}
 
 -- a flag as it is compiled, for an image
 pub record Compiled : Type 0 where

@@ -1,12 +1,11 @@
 -- Image sets: four files that belong together, and which release and notes they hold.
 use Rattle.std.specs.Prelude.{◌≡◌, ℕ, ◌+◌, ◌/◌, ◌%◌, ◌<◌, ◌≤◌, ◌⊎◌, List, length, map, find, slice_index, All, Bool}
-use Rattle.std.specs.Prelude.{◌==◌, ◌&&◌, true, false, [], Option, unwrap_or}
+use Rattle.std.specs.Prelude.{◌==◌, ◌&&◌, [], Option, unwrap_or}
 use Rattle.std.specs.Option.{option_map}
 use Rattle.std.specs.FinMap.{FinMap}
 use Rattle.std.specs.Str.{bytes_eq}
 use Rattle.acfg_base.specs.declared.releases.Kind.{Kind}
-use Rattle.acfg_base.specs.declared.releases.Kind.TheVariants.{ReadWrite, ReadOnly, Fixed}
-use Rattle.acfg_base.specs.Release.{Key, key_cmp, ReleaseMap}
+use Rattle.acfg_base.specs.Release.{Key, key_cmp, ReleaseMap, is_read_write}
 use Rattle.acfg_base.specs.Places.{map_of}
 use Rattle.acfg_views.specs.Layout.{Package, Flag, MapParts, ListParts, IsPackageMapFile, IsFlagMapFile, IsListFile}
 use Rattle.acfg_views.specs.Layout.{flag_val_type, flag_info_type}
@@ -57,11 +56,6 @@ has_read_write byte = byte / 2 % 2 == 1
 
 abbrev pub has_local : ℕ → Bool
 has_local byte = byte / 4 % 2 == 1
-
-abbrev pub is_read_write : Kind → Bool
-is_read_write ReadWrite = true
-is_read_write ReadOnly = false
-is_read_write Fixed = false
 
 -- A release's info bytes have no notes. Those of a copy have them on read-write flags alone. No other bit is set.
 abbrev pub IsInfo : Use → ℕ → Type 0

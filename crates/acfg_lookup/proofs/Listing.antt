@@ -9,7 +9,6 @@ use Rattle.std.proofs.lemmas.List.{get_or-drop}
 use Rattle.std.proofs.lemmas.List.Folds.{list_any-append}
 use Rattle.std.proofs.lemmas.List.Elements.{All-cons}
 use Rattle.std.proofs.lemmas.List.Sums.{count_by-le-length}
-use Rattle.std.proofs.lemmas.Slice.Eq.{bytes_eq-Decides}
 use Rattle.acfg_base.specs.declared.releases.Kind.{Kind}
 use Rattle.acfg_views.specs.Layout.{Package, Flag, package_node}
 use Rattle.acfg_views.specs.Reading.{byte_in, flag_at}
@@ -133,9 +132,6 @@ module _ (opened : Opened) (packages : List Package) (flags : List Flag) (s : So
   -- a flag's package
   package_of_flag : (id : ℕ) → id < length packages → (n : Package) × (package_with packages id ≡ Some n)
   package_of_flag id lt = found_of_any (λ (n : Package). eqb n.id id) packages (s.ids id lt)
-
-  same_text : (a : List ℕ) → bytes_eq a a ≡ true
-  same_text a = (bytes_eq-Decides a a).1 refl
 
   named_is : (name : List ℕ) (p n : Package) → package_named packages name ≡ Some p → package_named packages name ≡ Some n → p ≡ n
   named_is name p n a b = let e = sym a ∙ b in cc

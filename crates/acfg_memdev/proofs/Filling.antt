@@ -8,7 +8,7 @@ use Rattle.std.specs.Map.{update}
 use Rattle.std.specs.Option.{option_map, option_or}
 use Rattle.std.specs.Str.{bytes_eq}
 use Rattle.acfg_device.specs.Disk as disk
-use Rattle.acfg_device.proofs.Naming.{functions, same_name, update_apart, update_here}
+use Rattle.acfg_device.proofs.Naming.{same_name, update_apart, update_here}
 use Rattle.acfg_memdev.specs.History.{given, settled_file}
 use Rattle.acfg_memdev.specs.Kept.{entry_of}
 
@@ -47,14 +47,6 @@ put_in names after entry rest absent is name = elim (same_name entry.0 name) [
     here None none = wanted_here entry rest
     here (Some file) none = cc
 
-pub all_in : (all : List (List ℕ × List ℕ)) (names : disk.Names) → ((name : List ℕ) → wanted all name ≡ so_far names [] name) → names ≡ wanted all
-all_in all names each = functions names (wanted all) (λ name. sym (each name ∙ nothing (names name)))
-  where
-    nothing : (file : Option disk.File) → option_or file None ≡ file
-    nothing None = refl
-    nothing (Some file) = refl
-
--- one turn of the loop over the files
 pub turn : (files : List (String Global × Vec ℕ Global)) (index : ℕ) (item : String Global × Vec ℕ Global) (names after : disk.Names) (called bytes : List ℕ)
     → index < length files → item ≡ get_or files index item → called ≡ string_bytes item.0 → bytes ≡ item.1.items
     → (is_some (names called) ≡ true → after ≡ names) → (is_some (names called) ≡ false → after ≡ update bytes_eq names called (Some (settled_file bytes)))

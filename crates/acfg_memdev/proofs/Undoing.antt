@@ -1,5 +1,5 @@
 -- Name changes are undone, the newest first.
-use Rattle.std.proofs.Common.{◌≡◌, inl, inr, ℕ, ◌+◌, ◌≤◌, ◌<◌, List, [], ◌∷◌, Option, None, true, false, length, cond, refl, sym, ◌∙◌, ap, arith, nat_lt}
+use Rattle.std.proofs.Common.{◌≡◌, inl, inr, ℕ, ◌≤◌, List, [], ◌∷◌, Option, None, true, length, cond, refl, sym, ◌∙◌, ap, arith, nat_lt}
 use Rattle.std.proofs.lemmas.Bool.Decides.{nat_tests}
 use Rattle.std.proofs.lemmas.List.{length-map, length-reverse}
 use Rattle.std.specs.Map.{update}
@@ -32,10 +32,6 @@ moved_back names from to moved lost = functions _ (update bytes_eq (update bytes
 pub all_kept : (count : ℕ) (changes : List disk.Change) (names : disk.Names) → length changes ≤ count → kept count changes names ≡ names
 all_kept count [] names few = refl
 all_kept count (newest ∷ older) names few = let low : nat_lt (length older) count ≡ true = grind (arith, nat_tests) in rw low refl
-
--- one more
-pub one_undone : (count : ℕ) (newest : disk.Change) (older : List disk.Change) (names : disk.Names) → count < length older + 1 → kept count (newest ∷ older) names ≡ kept count older (disk.undone newest names)
-one_undone count newest older names many = let high : nat_lt (length older) count ≡ false = grind (arith, nat_tests) in rw high refl
 
 pub length-changes_of : (changes : List Change) → length (changes_of changes) ≡ length changes
 length-changes_of changes = simp (length-reverse, length-map) refl

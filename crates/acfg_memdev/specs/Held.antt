@@ -1,4 +1,4 @@
--- What the device keeps, as the disk that it stands for.
+-- Private: what the device keeps, as the disk that it stands for. No public clause cites it.
 use Rattle.std.specs.Prelude.{string_bytes}
 use Rattle.std.specs.Option.{option_map}
 use Rattle.acfg_device.specs.Disk as disk

@@ -1,4 +1,4 @@
--- The names of a disk, as the slots of a map.
+-- Private: the names of a disk, as the slots of a map. No public clause cites it.
 use Rattle.std.specs.Prelude.{List, Option, Some, None, String, map, reverse}
 use Rattle.std.specs.BTreeMap.{BTreeMap, get_by_text}
 use Rattle.std.specs.Option.{option_map}

@@ -1,4 +1,4 @@
--- What a device in memory keeps is what its history makes of the disk.
+-- Private: what a device in memory keeps is what its history makes of the disk. No public clause cites it.
 use Rattle.std.specs.Prelude.{◌≡◌, map}
 use Rattle.acfg_memdev.specs.History.{CanDoAll, History, account_of, first}
 use Rattle.acfg_memdev.specs.Kept.{entry_of, logged_of}

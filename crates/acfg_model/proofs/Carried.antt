@@ -6,15 +6,16 @@ use Rattle.acfg_base.specs.declared.releases.Entry.{Entry}
 use Rattle.acfg_base.specs.declared.releases.Kind.{Kind}
 use Rattle.acfg_base.specs.declared.releases.Kind.TheVariants.{ReadWrite}
 use Rattle.acfg_base.specs.Places.{AreInOrder, StandsAt, WouldStandAt, row_at, map_where}
-use Rattle.acfg_base.specs.Release.{Key, key_cmp, key_of, facts_of, ReleaseMap, entries_of, HasLawfulKeys}
+use Rattle.acfg_base.specs.Release.{Key, key_cmp, key_of, facts_of, ReleaseMap, entries_of, HasLawfulKeys, is_read_write}
 use Rattle.acfg_base.proofs.Rows.{AreInOrder-map, row_at-map, row_at-found, row_at-stands, row_at-gap, get-map_of, get-map_where}
 use Rattle.acfg_base.proofs.Keys.{key_total, key_exact, entries_of-in_order, release_of-entries_of}
 use Rattle.acfg_base.proofs.Maps.{get-map_values}
+use Rattle.acfg_model.specs.Bodies.{booted_row, carried_row}
 use Rattle.acfg_model.specs.declared.containers.FlagState.{FlagState}
-use Rattle.acfg_model.specs.State.{BootedFlag, BootMap, IsDigest, IsValidContainer, is_read_write, is_writable, pick}
+use Rattle.acfg_model.specs.State.{BootedFlag, BootMap, IsDigest, IsValidContainer, is_writable, pick}
 use Rattle.acfg_model.specs.Views.{booted_key, booted_flag, boot_of}
 use Rattle.acfg_model.specs.Step.{boot_map, with_release, fresh}
-use Rattle.acfg_model.specs.FlagStates.{row_key, release_in, server_in, local_in, container_in, booted_row, carried_row, IsLawful}
+use Rattle.acfg_model.specs.FlagStates.{row_key, release_in, server_in, local_in, container_in, IsLawful}
 use Rattle.acfg_model.proofs.Valid.{IsValidContainer-with_release, IsValidContainer-fresh}
 
 module _ (old : List FlagState) (order : AreInOrder key_cmp row_key old) (release : ReleaseMap) where

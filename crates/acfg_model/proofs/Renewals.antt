@@ -1,21 +1,21 @@
 -- One flag's entry in a boot copy is made anew.
-use Rattle.std.proofs.Common.{◌≡◌, ℕ, Bool, List, get_or, set, Option, None, Some, Result, Ok, Err, option_map, is_some, unwrap_or, if◌then◌else◌, refl, sym, ap, subst, ◌∙◌}
+use Rattle.std.proofs.Common.{◌≡◌, ℕ, Bool, List, get_or, set, Option, None, Some, option_map, is_some, unwrap_or, if◌then◌else◌, refl, sym, ap, ◌∙◌}
 use Rattle.std.specs.FinMap.{get, insert, contains_key}
 use Rattle.std.proofs.lemmas.List.{get_or_default}
 use Rattle.acfg_base.specs.declared.releases.Kind.{Kind}
 use Rattle.acfg_base.specs.Places.{AreInOrder, StandsAt, WouldStandAt}
-use Rattle.acfg_base.specs.Release.{Key, key_cmp}
+use Rattle.acfg_base.specs.Release.{Key, key_cmp, is_read_write}
 use Rattle.acfg_base.proofs.Rows.{AreInOrder-set, get-map_of, map_of-set, row_at-gap, row_at-stands}
 use Rattle.acfg_base.proofs.Keys.{key_exact, key_total}
+use Rattle.acfg_model.specs.Bodies.{renewed_row}
 use Rattle.acfg_model.specs.declared.changes.Change.{Change}
-use Rattle.acfg_model.specs.declared.changes.Change.TheVariants.{SetServer, SetLocal, UnsetLocal}
 use Rattle.acfg_model.specs.declared.containers.FlagState.{FlagState}
 use Rattle.acfg_model.specs.declared.refusals.Refusal.{Refusal}
 use Rattle.acfg_model.specs.declared.refusals.Refusal.TheVariants.{NotBooted}
 use Rattle.acfg_model.specs.declared.views.Booted.{Booted}
-use Rattle.acfg_model.specs.FlagStates.{IsOutcome, boot_renewed, container_in, local_in, picked_flag, renewed_row, row_key, server_in}
-use Rattle.acfg_model.specs.State.{BootMap, BootedFlag, Container, is_read_write, pick}
-use Rattle.acfg_model.specs.Step.{IsRenewable, boot_refusal, change_refusal, changed, changed_key, entry_refusal, now_refusal, renewed, renewed_flag, unless, with_change, with_change_now, with_flag}
+use Rattle.acfg_model.specs.FlagStates.{boot_renewed, container_in, local_in, picked_flag, row_key, server_in}
+use Rattle.acfg_model.specs.State.{BootMap, BootedFlag, Container, pick}
+use Rattle.acfg_model.specs.Step.{boot_refusal, change_refusal, changed_key, entry_refusal, now_refusal, renewed, renewed_flag, with_flag}
 use Rattle.acfg_model.specs.Views.{boot_of, booted_flag, booted_key}
 use Rattle.acfg_model.proofs.Rowed.{local_at, release_at, server_at}
 
@@ -80,9 +80,6 @@ module _ (rows : List FlagState) (order : AreInOrder key_cmp row_key rows) (key 
       ap (λ entry. container_in digest rows (Some (with_flag boot key entry))) (picks (get boot key))
       ∙ ap (λ (b : Option BootMap). container_in digest rows (option_map (λ (m : BootMap). with_flag m key (renewed_flag (container_in digest rows kept) key (get m key))) b)) (sym there)
 
-  pub renewed_without : kept ≡ None → container_in digest rows None ≡ renewed (container_in digest rows kept) key
-  renewed_without none = ap (λ (b : Option BootMap). container_in digest rows (option_map (λ (m : BootMap). with_flag m key (renewed_flag (container_in digest rows kept) key (get m key))) b)) (sym none)
-
 -- where the release lacks the flag, nothing is made anew
 pub renewed_absent : (c : Container) (key : Key) → get c.release key ≡ None → c ≡ renewed c key
 renewed_absent c key absent = λ i. record { digest = c.digest; release = c.release; server = c.server; local = c.local; boot = sym (stays c.boot) i }
@@ -103,49 +100,3 @@ module _ (c : Container) (change : Change) (boot : BootMap) (there : c.boot ≡ 
 
   pub boot_refuses : (why : Refusal) → change_refusal c.release c.local change ≡ Some why → Some why ≡ now_refusal c change
   boot_refuses why is = λ i. boot_refusal (sym is i) (sym there i) (changed_key change)
-
-goes_first : (why : Option Refusal) (boot : Option BootMap) (key : Key) → boot_refusal why boot key ≡ None → why ≡ None
-goes_first None boot key e = refl
-goes_first (Some why) None key e = cc
-goes_first (Some why) (Some boot) key e = cc
-
-goes_then : (why : Option Refusal) (boot : Option BootMap) (key : Key) → boot_refusal why boot key ≡ None → IsRenewable boot key
-goes_then why None key e = tt
-goes_then None (Some boot) key e = e
-goes_then (Some why) (Some boot) key e = cc
-
-same_boot : (c : Container) (change : Change) → (changed c change).boot ≡ c.boot
-same_boot c (SetServer key value) = refl
-same_boot c (SetLocal key value) = refl
-same_boot c (UnsetLocal key) = refl
-
-ok_inside : {A B : Type 0} {x y : A} → ◌≡◌ {A = Result A B} (Ok x) (Ok y) → x ≡ y
-ok_inside e = cc
-
-ok_not_err : {A B : Type 0} {x : A} {y : B} → ◌≡◌ {A = Result A B} (Ok x) (Err y) → ⊥
-ok_not_err e = cc
-
-module _ (old : Container) (change : Change) (goes : now_refusal old change ≡ None) where
-  comes : with_change old change ≡ Ok (changed old change)
-  comes = ap (λ why. unless why (changed old change)) (goes_first _ old.boot (changed_key change) goes)
-
-  -- the change itself isn't refused
-  done : {A : Type 0} (outcome : Result A Refusal) (middle : Container) → IsOutcome (with_change old change) outcome old middle → changed old change ≡ middle
-  done (Ok a) middle e = ok_inside (sym comes ∙ e)
-  done (Err why) middle e = absurd (ok_not_err (sym comes ∙ e.0))
-
-  pub renewable_after : {A : Type 0} (outcome : Result A Refusal) (middle : Container) → IsOutcome (with_change old change) outcome old middle → IsRenewable middle.boot (changed_key change)
-  renewable_after outcome middle e =
-      subst (λ (b : Option BootMap). IsRenewable b (changed_key change)) (sym (same_boot old change) ∙ ap (λ (c : Container). c.boot) (done outcome middle e))
-      (goes_then _ old.boot (changed_key change) goes)
-
-  now_comes : with_change_now old change ≡ Ok (renewed (changed old change) (changed_key change))
-  now_comes = ap (λ why. unless why (renewed (changed old change) (changed_key change))) goes
-
-  pub outcome_now : {A : Type 0} (outcome : Result A Refusal) (middle new : Container) → IsOutcome (with_change old change) outcome old middle → new ≡ renewed middle (changed_key change)
-      → IsOutcome (with_change_now old change) outcome old new
-  outcome_now (Ok a) middle new e made = now_comes ∙ ap (λ c. Ok (renewed c (changed_key change))) (done (Ok a) middle e) ∙ ap Ok (sym made)
-  outcome_now (Err why) middle new e made = absurd (ok_not_err (sym comes ∙ e.0))
-
-pub outcome_refused : (old : Container) (change : Change) (why : Refusal) → Some why ≡ now_refusal old change → with_change_now old change ≡ Err why
-outcome_refused old change why is = sym (ap (λ r. unless r (renewed (changed old change) (changed_key change))) is)

@@ -6,6 +6,7 @@ use Rattle.acfg_base.specs.Places.{AreInOrder, map_where}
 use Rattle.acfg_base.specs.Release.{key_cmp, key_of, facts_of, release_of}
 use Rattle.acfg_base.proofs.Rows.{AreInOrder-map, AreInOrder-filter_map, AreInOrder-same_keys, map_of-map, map_of-filter_map}
 use Rattle.acfg_base.proofs.Keys.{key_total}
+use Rattle.acfg_model.specs.Bodies.{override_in, override_row, entry_in}
 use Rattle.acfg_model.specs.declared.machines.NamedContainer.{NamedContainer}
 use Rattle.acfg_model.specs.declared.views.Override.{Override}
 use Rattle.acfg_model.specs.declared.containers.Setter.{Setter}
@@ -14,8 +15,8 @@ use Rattle.acfg_model.specs.declared.views.ContainerState.{ContainerState}
 use Rattle.acfg_model.specs.State.{Container, name_cmp}
 use Rattle.acfg_model.specs.Machines.{kept_name, state_of}
 use Rattle.acfg_model.specs.Views.{override_key, overrides_of}
-use Rattle.acfg_model.specs.FlagStates.{row_key, release_in, entry_in, override_in, override_row}
-use Rattle.acfg_model.specs.Views.{state_name, container_of, state_from}
+use Rattle.acfg_model.specs.FlagStates.{row_key, release_in}
+use Rattle.acfg_model.specs.Views.{name_of_state, container_of, state_from}
 use Rattle.acfg_model.proofs.Kept.{name_total}
 
 pub entries-in_order : (rows : List FlagState) → AreInOrder key_cmp row_key rows → AreInOrder key_cmp key_of (map entry_in rows)
@@ -36,22 +37,22 @@ overrides_of-listed who = map_of-filter_map key_total override_key row_key (over
 
 -- a name and its container
 abbrev pub shown_pair : ContainerState → List ℕ × Container
-shown_pair state = (state_name state, container_of state)
+shown_pair state = (name_of_state state, container_of state)
 
 abbrev pub named_pair : NamedContainer → List ℕ × Container
 named_pair named = (named.name, named.container)
 
 module _ (states : List ContainerState) (containers : List NamedContainer) (same : map shown_pair states ≡ map named_pair containers) where
-  names_of_states : (ss : List ContainerState) → map state_name ss ≡ map (λ (p : List ℕ × Container). p.0) (map shown_pair ss)
+  names_of_states : (ss : List ContainerState) → map name_of_state ss ≡ map (λ (p : List ℕ × Container). p.0) (map shown_pair ss)
   names_of_states [] = refl
-  names_of_states (s ∷ ss) = ap (λ rest. state_name s ∷ rest) (names_of_states ss)
+  names_of_states (s ∷ ss) = ap (λ rest. name_of_state s ∷ rest) (names_of_states ss)
 
   names_of_containers : (ns : List NamedContainer) → map (λ (p : List ℕ × Container). p.0) (map named_pair ns) ≡ map kept_name ns
   names_of_containers [] = refl
   names_of_containers (n ∷ ns) = ap (λ rest. kept_name n ∷ rest) (names_of_containers ns)
 
-  pub states-in_order : AreInOrder name_cmp kept_name containers → AreInOrder name_cmp state_name states
-  states-in_order h = AreInOrder-same_keys name_total state_name kept_name states containers (names_of_states states ∙ ap (map (λ (p : List ℕ × Container). p.0)) same ∙ names_of_containers containers) ∙ h
+  pub states-in_order : AreInOrder name_cmp kept_name containers → AreInOrder name_cmp name_of_state states
+  states-in_order h = AreInOrder-same_keys name_total name_of_state kept_name states containers (names_of_states states ∙ ap (map (λ (p : List ℕ × Container). p.0)) same ∙ names_of_containers containers) ∙ h
 
   pub state_from-shown : state_from states ≡ state_of containers
   state_from-shown = ap from_entries same

@@ -5,11 +5,11 @@ use Rattle.std.specs.Ordering.{eq_by_cmp}
 use Rattle.std.specs.FinMap.{FinMap, get, insert, remove, contains_key, retain_keys, get-insert, get-remove, get-empty, get-retain_keys}
 use Rattle.acfg_base.specs.declared.releases.Kind.{Kind}
 use Rattle.acfg_base.specs.declared.releases.Kind.TheVariants.{ReadWrite, ReadOnly, Fixed}
-use Rattle.acfg_base.specs.Release.{Key, key_cmp, ReleaseMap, HasLawfulKeys, IsKey}
+use Rattle.acfg_base.specs.Release.{Key, key_cmp, ReleaseMap, HasLawfulKeys, IsKey, is_read_write}
 use Rattle.acfg_base.proofs.Rows.{Equal_of}
 use Rattle.acfg_base.proofs.Keys.{key_total, key_exact}
 use Rattle.acfg_base.proofs.Maps.{get-map_values}
-use Rattle.acfg_model.specs.State.{BootedFlag, BootMap, Container, is_read_write, is_writable, pick, IsDigest, IsValidContainer}
+use Rattle.acfg_model.specs.State.{BootedFlag, BootMap, Container, is_writable, pick, IsDigest, IsValidContainer}
 use Rattle.acfg_model.specs.declared.changes.Change.{Change}
 use Rattle.acfg_model.specs.declared.changes.Change.TheVariants.{SetServer, SetLocal, UnsetLocal}
 use Rattle.acfg_model.specs.Step.{IsRenewable, set_refusal, change_refusal, changed, entry_refusal, boot_map, booted, booted_flag_of, renewed, renewed_flag, with_flag, with_release, fresh}

@@ -1,20 +1,15 @@
 -- The flags of a release with their overrides, as rows in order: how a container is kept, and how it changes.
-use Rattle.std.specs.Prelude.{◌≡◌, ℕ, Bool, List, Option, None, Some, Result, Ok, Err, MatchResult}
-use Rattle.std.specs.Prelude.{if◌then◌else◌, is_some, unwrap_or, option_and_then, option_map}
+use Rattle.std.specs.Prelude.{◌≡◌, ℕ, List, Option, None, Some, Result, Ok, Err, MatchResult}
+use Rattle.std.specs.Prelude.{is_some, unwrap_or, option_map}
 use Rattle.std.specs.FinMap.{get}
-use Rattle.acfg_base.specs.Places.{AreInOrder, StandsAt, row_at, map_of, map_where}
-use Rattle.acfg_base.specs.declared.releases.Entry.{Entry}
+use Rattle.acfg_base.specs.Places.{AreInOrder, StandsAt, map_of, map_where}
 use Rattle.acfg_base.specs.Release.{Key, key_cmp, key_of, facts_of, ReleaseMap}
-use Rattle.acfg_model.specs.declared.views.Booted.{Booted}
 use Rattle.acfg_model.specs.declared.refusals.Refusal.{Refusal}
-use Rattle.acfg_model.specs.declared.views.Override.{Override}
-use Rattle.acfg_model.specs.declared.containers.Setter.{Setter}
-use Rattle.acfg_model.specs.declared.containers.Setter.TheVariants.{Server, Local}
 use Rattle.acfg_model.specs.declared.containers.FlagState.{FlagState}
-use Rattle.acfg_model.specs.State.{OverrideMap, BootMap, BootedFlag, Container, IsValidContainer, is_read_write}
+use Rattle.acfg_model.specs.State.{OverrideMap, BootMap, BootedFlag, Container, IsValidContainer}
 use Rattle.acfg_model.specs.declared.changes.Change.{Change}
 use Rattle.acfg_model.specs.declared.changes.Change.TheVariants.{SetServer, SetLocal, UnsetLocal}
-use Rattle.acfg_model.specs.Step.{change_refusal, changed_key, set_refusal, unset_refusal, with_flag}
+use Rattle.acfg_model.specs.Step.{change_refusal, changed_key, with_flag}
 
 abbrev pub row_key : FlagState → Key
 row_key row = key_of row.entry
@@ -32,35 +27,6 @@ abbrev pub container_in : List ℕ → List FlagState → Option BootMap → Con
 container_in digest rows boot =
     record { digest = digest; release = release_in rows; server = server_in rows; local = local_in rows; boot = boot }
 
--- a row's override of one kind
-abbrev pub override_in : Setter → FlagState → Option Bool
-override_in Server row = row.server
-override_in Local row = row.local
-
-abbrev pub override_row : FlagState → Bool → Override
-override_row row value = record { «package» = row.entry.package; flag = row.entry.flag; value = value }
-
-abbrev pub entry_in : FlagState → Entry
-entry_in row = row.entry
-
--- a row's pick, and its notes
-abbrev pub booted_row : FlagState → Booted
-booted_row row = record {
-  entry = record row.entry { value = unwrap_or row.local (unwrap_or row.server row.entry.value) };
-  server = is_some row.server;
-  local = is_some row.local;
-}
-
--- an entry with the overrides that it had among other rows, where it is read-write
-abbrev pub carried_row : List FlagState → Entry → FlagState
-carried_row old entry =
-    let row = if is_read_write entry.kind then row_at key_cmp row_key old (key_of entry) else None in
-    record {
-      entry = entry;
-      server = option_and_then (λ (r : FlagState). r.server) row;
-      local = option_and_then (λ (r : FlagState). r.local) row;
-    }
-
 -- the rows are in order, and the container that they make is valid
 pub record IsLawful (rows : List FlagState) (container : Container) : Type 0 where
   pub order : AreInOrder key_cmp row_key rows
@@ -76,12 +42,7 @@ abbrev pub IsPlaceUnless : List FlagState → Key → Option Refusal → Result 
 IsPlaceUnless rows key refusal r =
     MatchResult r (λ at. StandsAt key_cmp row_key rows key at × (refusal ≡ None)) (λ why. refusal ≡ Some why)
 
-abbrev pub IsSettable : List FlagState → Key → Result ℕ Refusal → Type 0
-IsSettable rows key r = IsPlaceUnless rows key (set_refusal (get (release_in rows) key)) r
-
-abbrev pub IsUnsettable : List FlagState → Key → Result ℕ Refusal → Type 0
-IsUnsettable rows key r = IsPlaceUnless rows key (unset_refusal (get (release_in rows) key) (get (local_in rows) key)) r
-
+-- the same, for the flag of a change
 abbrev pub IsChangeable : List FlagState → Change → Result ℕ Refusal → Type 0
 IsChangeable rows change r =
     IsPlaceUnless rows (changed_key change) (change_refusal (release_in rows) (local_in rows) change) r
@@ -93,13 +54,6 @@ changed_row (SetLocal key value) row = record row { local = Some value }
 changed_row (UnsetLocal key) row = record row { local = None }
 
 -- what a flag's entry in the boot copy takes of its row: the pick, and a note of each override
-abbrev pub renewed_row : FlagState → Booted → Booted
-renewed_row row was = record {
-  entry = record was.entry { value = unwrap_or row.local (unwrap_or row.server row.entry.value) };
-  server = is_some row.server;
-  local = is_some row.local;
-}
-
 abbrev pub picked_flag : FlagState → BootedFlag → BootedFlag
 picked_flag row was = record {
   kind = was.kind;

@@ -1,5 +1,5 @@
 -- What the device keeps: the containers, each with its release, its overrides and perhaps its boot copy.
-use Rattle.std.specs.Prelude.{◌≡◌, ℕ, ◌<◌, ◌≤◌, Bool, true, false, ◌||◌, IsTrue}
+use Rattle.std.specs.Prelude.{◌≡◌, ℕ, ◌<◌, ◌≤◌, Bool, false, ◌||◌, IsTrue}
 use Rattle.std.specs.Prelude.{List, length, All, Option, Some, unwrap_or}
 use Rattle.std.specs.Option.{option_map_or}
 use Rattle.std.specs.declared.cmp.Ordering.{Ordering}
@@ -7,9 +7,8 @@ use Rattle.std.specs.Ordering.{nat_cmp}
 use Rattle.std.specs.Cmp.Lexicographic.{slice_cmp}
 use Rattle.std.specs.FinMap.{FinMap, get, len}
 use Rattle.acfg_base.specs.declared.releases.Kind.{Kind}
-use Rattle.acfg_base.specs.declared.releases.Kind.TheVariants.{ReadWrite, ReadOnly, Fixed}
 use Rattle.acfg_base.specs.Names.{IsContainer}
-use Rattle.acfg_base.specs.Release.{Key, key_cmp, ReleaseMap, HasLawfulKeys, IsKey}
+use Rattle.acfg_base.specs.Release.{Key, key_cmp, ReleaseMap, HasLawfulKeys, IsKey, is_read_write}
 
 -- flags and the values that override those of the release
 abbrev pub OverrideMap : Type 0
@@ -42,11 +41,6 @@ name_cmp = slice_cmp nat_cmp
 -- the containers by their names: a list in which the names rise strictly
 abbrev pub State : Type 0
 State = FinMap name_cmp Container
-
-abbrev pub is_read_write : Kind → Bool
-is_read_write ReadWrite = true
-is_read_write ReadOnly = false
-is_read_write Fixed = false
 
 -- whether a release has a flag, and its value may be overridden
 abbrev pub is_writable : ReleaseMap → Key → Bool

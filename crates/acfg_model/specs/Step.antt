@@ -6,7 +6,7 @@ use Rattle.std.specs.FinMap.{get, insert, remove, empty, len, contains_key, reta
 use Rattle.acfg_base.specs.declared.releases.Kind.{Kind}
 use Rattle.acfg_base.specs.declared.releases.Kind.TheVariants.{ReadWrite, ReadOnly, Fixed}
 use Rattle.acfg_base.specs.Maps.{map_values}
-use Rattle.acfg_base.specs.Release.{Key, ReleaseMap}
+use Rattle.acfg_base.specs.Release.{Key, ReleaseMap, is_read_write}
 use Rattle.acfg_model.specs.declared.changes.Change.{Change}
 use Rattle.acfg_model.specs.declared.changes.Change.TheVariants.{SetServer, SetLocal, UnsetLocal}
 use Rattle.acfg_model.specs.declared.refusals.Refusal.{Refusal}
@@ -19,7 +19,7 @@ use Rattle.acfg_model.specs.declared.requests.Request.{Request}
 use Rattle.acfg_model.specs.declared.requests.Request.TheVariants.{Update, Server, Local, Unset, Boot, Get}
 use Rattle.acfg_model.specs.Refusals.{number_of}
 use Rattle.acfg_model.specs.State.{BootedFlag, BootMap, Container, OverrideMap, State}
-use Rattle.acfg_model.specs.State.{is_read_write, is_writable, pick, most_containers}
+use Rattle.acfg_model.specs.State.{is_writable, pick, most_containers}
 
 -- a refused request leaves the state as it was
 abbrev pub refused : State → Refusal → State × Reply

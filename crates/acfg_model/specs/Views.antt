@@ -23,8 +23,8 @@ booted_flag booted =
 abbrev pub boot_of : List Booted → BootMap
 boot_of list = map_of key_cmp booted_key list booted_flag
 
-abbrev pub state_name : ContainerState → List ℕ
-state_name state = state.name
+abbrev pub name_of_state : ContainerState → List ℕ
+name_of_state state = state.name
 
 -- a container, its name aside
 abbrev pub container_of : ContainerState → Container
@@ -37,4 +37,4 @@ container_of state = record {
 }
 
 abbrev pub state_from : List ContainerState → State
-state_from list = map_of name_cmp state_name list container_of
+state_from list = map_of name_cmp name_of_state list container_of

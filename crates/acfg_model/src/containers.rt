@@ -3,10 +3,9 @@
 ghost use Rattle.std.specs.Prelude.{◌≡◌, IfOk, OnOk, OnErr, map, option_map};
 ghost use Rattle.acfg_base.specs.Places.{AreInOrder, map_where};
 ghost use Rattle.acfg_base.specs.Release.{key_cmp, entries_of, HasLawfulKeys};
-ghost use Rattle.acfg_model.specs.FlagStates.{row_key, release_in, server_in, local_in, booted_row, carried_row};
-ghost use Rattle.acfg_model.specs.FlagStates.{changed_row, override_in};
-ghost use Rattle.acfg_model.specs.FlagStates.{IsChangeable, IsLawful, IsOutcome, IsSettable, IsUnsettable};
-ghost use Rattle.acfg_model.specs.FlagStates.{container_in};
+ghost use Rattle.acfg_model.specs.Bodies.{override_in, booted_row, carried_row, IsSettable, IsUnsettable};
+ghost use Rattle.acfg_model.specs.FlagStates.{row_key, release_in, server_in, local_in, changed_row, container_in};
+ghost use Rattle.acfg_model.specs.FlagStates.{IsChangeable, IsLawful, IsOutcome};
 ghost use Rattle.acfg_model.specs.State.{IsDigest, IsValidContainer};
 ghost use Rattle.acfg_model.specs.Step.{IsRenewable, boot_map, booted, boot_value_in, fresh, now_refusal, renewed};
 ghost use Rattle.acfg_model.specs.Step.{with_change, with_change_now, with_override, with_release};

@@ -2,7 +2,8 @@
 
 ghost use Rattle.std.specs.Prelude.{◌≡◌};
 ghost use Rattle.std.specs.FinMap.{get};
-ghost use Rattle.acfg_model.specs.FlagStates.{boot_renewed, renewed_row};
+ghost use Rattle.acfg_model.specs.Bodies.{renewed_row};
+ghost use Rattle.acfg_model.specs.FlagStates.{boot_renewed};
 ghost use Rattle.acfg_model.specs.Step.{entry_refusal};
 ghost use Rattle.acfg_model.specs.Views.{boot_of};
 

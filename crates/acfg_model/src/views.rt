@@ -89,11 +89,11 @@ pub struct ContainerState {
 impl Row for ContainerState {
     ghost use Rattle.std.specs.Prelude.{List, ℕ};
     ghost use Rattle.acfg_model.specs.State.{name_cmp};
-    ghost use Rattle.acfg_model.specs.Views.{state_name};
+    ghost use Rattle.acfg_model.specs.Views.{name_of_state};
 
     ghost Key = { List ℕ };
 
-    ghost key = { state_name };
+    ghost key = { name_of_state };
 
     ghost cmp = { name_cmp };
 }

@@ -1,11 +1,7 @@
 -- A bucket lies among the buckets, and when the table of bucket counts has an entry and how large that is.
-use Rattle.std.proofs.Common.{ℕ, ◌*◌, ◌<◌, ◌≤◌, List, IsNone, IfSome, arith}
+use Rattle.std.proofs.Common.{ℕ, ◌*◌, ◌<◌, ◌≤◌, IsNone, IfSome, arith}
 use Rattle.std.proofs.lemmas.Bool.Decides.{nat_tests}
-use Rattle.acfg_sip.specs.Buckets.{hash, size}
-
-pub hash-below : (key : List ℕ) (n : ℕ) → 0 < n → hash key n < n
-unfolding hash
-hash-below key n some = omega arith
+use Rattle.acfg_sip.specs.Buckets.{size}
 
 pub size-none : (entries : ℕ) → 196620 < entries → IsNone (size entries)
 unfolding size

@@ -20,7 +20,7 @@ use Rattle.acfg_store.specs.declared.containers.Kept.{Kept}
 use Rattle.acfg_store.specs.declared.names.Part.TheVariants.{Release}
 use Rattle.acfg_store.specs.Applied.{IsOpen}
 use Rattle.acfg_store.specs.BootPlans.{IsBootPlan, IsBootedBy, LeavesBooted, booted_at, with_copy}
-use Rattle.acfg_store.specs.Commits.{IsLayout, LeavesEither}
+use Rattle.acfg_store.specs.Commits.{IsLayout, IsEitherState, LeavesState}
 use Rattle.acfg_store.specs.Kept.{IsIndexed, entry_of}
 use Rattle.acfg_store.specs.Names.{IsOfDirectory, path}
 use Rattle.acfg_store.specs.Opening.{AreKept, all_sets_of, entries_of}
@@ -72,9 +72,9 @@ module _ (dir : List ℕ) (old : List Kept) (kept : AreKept old) (at : ℕ) (wit
     module _ (files : List NewFile) (beside name bytes : List ℕ) (files_are : files ≡ plan.writes.files.items) (beside_is : beside ≡ string_bytes plan.writes.beside) (name_is : name ≡ string_bytes plan.writes.pointer) (bytes_are : bytes ≡ plan.writes.bytes.items) where
       pub boot_leaves : (spoken : List ℕ) (left : Files) (said : List ℕ)
           → IsEither first spoken (λ other. IsNameAmong files other ⊎ (other ≡ beside)) (replaced beside name bytes (written files first)) left said
-          → (other : Entry) → LeavesEither first spoken dir (entries_of old) (booted_at (entries_of old) at other) left said
+          → (other : Entry) → LeavesState first spoken dir (IsEitherState (entries_of old) (booted_at (entries_of old) at other)) left said
       boot_leaves spoken left said either other =
-          subst (λ (later : List Entry). LeavesEither first spoken dir (entries_of old) later left said) (later_is other)
+          subst (λ (later : List Entry). LeavesState first spoken dir (IsEitherState (entries_of old) later) left said) (later_is other)
           (copy_leaves dir old kept at within one is plan.writes planned.writes first layout sets boot copy valid files beside name bytes files_are beside_is name_is bytes_are spoken left said either)
 
       module _ (new : Kept) (by : IsBootedBy plan.writes.boot one new) where

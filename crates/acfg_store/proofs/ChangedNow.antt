@@ -18,10 +18,10 @@ use Rattle.acfg_model.specs.State.{BootMap, Container, State, name_cmp}
 use Rattle.acfg_model.specs.Step.{IsRenewable, boot_refusal, change_refusal, change_step, changed, changed_key, now_refusal, refused, renewed, replaced, unless, with_change, with_change_now}
 use Rattle.acfg_model.proofs.Kept.{name_exact, name_total}
 use Rattle.acfg_store.specs.declared.containers.Kept.{Kept}
-use Rattle.acfg_store.specs.Applied.{IsBetween, IsMixedAt, boot_in, persistent}
+use Rattle.acfg_store.specs.Applied.{IsBetween, IsMixedAt, boot_in}
 use Rattle.acfg_store.specs.BootPlans.{renewed_at, renewed_entry}
 use Rattle.acfg_store.specs.ChangedNow.{IsChangedNow, IsRefusedNow, IsTurnedNow}
-use Rattle.acfg_store.specs.Commits.{LeavesEither, LeavesState}
+use Rattle.acfg_store.specs.Commits.{LeavesState, IsEitherState}
 use Rattle.acfg_store.specs.Kept.{entry_of, kept_name}
 use Rattle.acfg_store.specs.Names.{IsOfDirectory}
 use Rattle.acfg_store.specs.Opening.{AreKept, entries_of}
@@ -94,9 +94,6 @@ module _ (ks : List Kept) (are : AreKept ks) (name : List ℕ) (change : Change)
 -- the state of containers where another one stands at a place
 state_set_at : (entries : List Entry) (at : ℕ) (one : Entry) → at < length entries → (order : AreInOrder name_cmp entry_name entries) → entry_name (get_or entries at one) ≡ one.name → state_of (set entries at one) ≡ insert (state_of entries) one.name one.container
 state_set_at entries at one within order keyed = map_of-set name_total entry_name name_exact entries order at one within keyed (λ (e : Entry). e.container)
-
-keeps_persistent : (c : Container) (key : Key) → persistent (renewed c key) ≡ persistent c
-keeps_persistent c key = refl
 
 keeps_boot : (c : Container) (change : Change) → (changed c change).boot ≡ c.boot
 keeps_boot c (SetServer key value) = refl
@@ -208,7 +205,7 @@ module _ (old mid : List Kept) (kept : AreKept old) (name : List ℕ) (change : 
           (λ i. (sym (found after q) i, sym (found (changed was.container change) q) i)) (here q (eq_by_cmp name_cmp q name) refl)
 
   -- what a cut of the first commit leaves
-  pub first_leaves : (files : Files) (spoken dir : List ℕ) (left : Files) (said : List ℕ) → LeavesEither files spoken dir (entries_of old) (entries_of mid) left said
+  pub first_leaves : (files : Files) (spoken dir : List ℕ) (left : Files) (said : List ℕ) → LeavesState files spoken dir (IsEitherState (entries_of old) (entries_of mid)) left said
       → LeavesState files spoken dir (IsBetween first_state last) left said
   first_leaves files spoken dir left said leaves =
       record { words = leaves.words; state = leaves.state; is_one = one_of leaves.is_one; stands = leaves.stands; others = leaves.others }
@@ -219,7 +216,7 @@ module _ (old mid : List Kept) (kept : AreKept old) (name : List ℕ) (change : 
 
   -- and one of the second
   pub then_leaves : (files : Files) (spoken dir : List ℕ) (later : Files) (words : List ℕ) → SameBut (IsOfDirectory dir) files later → words ≡ spoken → (other : Entry) (left : Files) (said : List ℕ)
-      → LeavesEither later words dir (entries_of mid) (renewed_at (entries_of mid) at key other) left said → LeavesState files spoken dir (IsBetween first_state last) left said
+      → LeavesState later words dir (IsEitherState (entries_of mid) (renewed_at (entries_of mid) at key other)) left said → LeavesState files spoken dir (IsBetween first_state last) left said
   then_leaves files spoken dir later words same told other left said leaves = record {
     words = leaves.words ∙ told;
     state = leaves.state;

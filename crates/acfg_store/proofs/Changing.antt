@@ -6,7 +6,7 @@ use Rattle.std.proofs.lemmas.List.Elements.{All-contains}
 use Rattle.acfg_device.specs.Account.{Account}
 use Rattle.acfg_device.specs.Left.{IsEither, LeavesSince, SameBut}
 use Rattle.acfg_device.specs.Panel.{Files}
-use Rattle.acfg_store.specs.Commits.{ChangesOne, IsCommit, IsKept, IsLayout, LeavesEither}
+use Rattle.acfg_store.specs.Commits.{ChangesOne, IsCommit, IsKept, IsLayout, IsEitherState, LeavesState}
 use Rattle.acfg_store.specs.Names.{IsOfDirectory}
 use Rattle.acfg_store.specs.Stands.{Entry, Holds, Lies, Stands, state_of}
 use Rattle.acfg_store.proofs.Lying.{holds_frame, lies_frame}
@@ -16,10 +16,10 @@ layout_stands : (files : Files) (dir : List ℕ) (entries : List Entry) → IsLa
 layout_stands files dir entries is = record { entries = entries; state_is = refl; valid = is.valid; lies = is.lies }
 
 pub commit_leaves : (dir : List ℕ) (entries later : List Entry) (spare : List ℕ → Type 0) (first new : Files) (spoken : List ℕ) (files : Files) (said : List ℕ)
-    → IsCommit dir entries later spare first new → IsEither first spoken spare new files said → LeavesEither first spoken dir entries later files said
+    → IsCommit dir entries later spare first new → IsEither first spoken spare new files said → LeavesState first spoken dir (IsEitherState entries later) files said
 commit_leaves dir entries later spare first new spoken files said is left = go left.left
   where
-    go : SameBut spare first files ⊎ (files ≡ new) → LeavesEither first spoken dir entries later files said
+    go : SameBut spare first files ⊎ (files ≡ new) → LeavesState first spoken dir (IsEitherState entries later) files said
     go (inl same) = record {
       words = left.words;
       state = state_of entries;

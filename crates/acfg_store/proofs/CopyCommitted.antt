@@ -18,7 +18,7 @@ use Rattle.acfg_store.specs.declared.names.Part.{Part}
 use Rattle.acfg_store.specs.declared.names.Part.TheVariants.{Release, Pointer, NewPointer, Boot}
 use Rattle.acfg_store.specs.declared.names.Slot.{Slot}
 use Rattle.acfg_store.specs.BootPlans.{IsCopyPlan, TakesCopy, named_slot, with_copy}
-use Rattle.acfg_store.specs.Commits.{IsCommit, IsLayout, LeavesEither}
+use Rattle.acfg_store.specs.Commits.{IsCommit, IsLayout, IsEitherState, LeavesState}
 use Rattle.acfg_store.specs.Kept.{IsCopied, IsCopySet, IsIndexed, entry_of, sets_of}
 use Rattle.acfg_store.specs.Names.{IsOfDirectory, path}
 use Rattle.acfg_store.specs.Opening.{AreKept, KeepsFiles, all_sets_of, entries_of}
@@ -149,7 +149,7 @@ module _ (dir : List ℕ) (old : List Kept) (kept : AreKept old) (at : ℕ) (wit
 
         pub copy_leaves : (spoken : List ℕ) (left : Files) (said : List ℕ)
             → IsEither first spoken (λ other. IsNameAmong files other ⊎ (other ≡ beside)) (replaced beside name bytes (written files first)) left said
-            → LeavesEither first spoken dir (entries_of old) (set (entries_of old) at (with_copy (entry_of one) boot)) left said
+            → LeavesState first spoken dir (IsEitherState (entries_of old) (set (entries_of old) at (with_copy (entry_of one) boot))) left said
         copy_leaves spoken left said either =
             commit_leaves dir (entries_of old) (set (entries_of old) at (with_copy entry boot)) (λ name. IsNameAmong plan.files.items name ⊎ (name ≡ path dir one.name NewPointer)) first after spoken left said commit_is
             (subst (λ (t : List NewFile × (List ℕ × Files)). IsEither first spoken (λ (other : List ℕ). IsNameAmong t.0 other ⊎ (other ≡ t.1.0)) t.1.1 left said)

@@ -11,7 +11,7 @@ use Rattle.acfg_base.specs.declared.releases.Kind.{Kind}
 use Rattle.acfg_base.specs.declared.releases.Kind.TheVariants.{ReadWrite}
 use Rattle.acfg_base.specs.Places.{AreInOrder, StandsAt, WouldStandAt, map_of, row_at}
 use Rattle.acfg_base.specs.Maps.{map_values}
-use Rattle.acfg_base.specs.Release.{Key, ReleaseMap, facts_of, key_cmp}
+use Rattle.acfg_base.specs.Release.{Key, ReleaseMap, facts_of, key_cmp, is_read_write}
 use Rattle.acfg_base.proofs.Keys.{key_exact, key_total}
 use Rattle.acfg_base.proofs.Maps.{get-map_values}
 use Rattle.acfg_base.proofs.Rows.{Equal_of, get-map_of, row_at-found, row_at-gap, row_at-map}
@@ -19,23 +19,19 @@ use Rattle.acfg_images.specs.declared.purpose.Use.TheVariants as purpose
 use Rattle.acfg_images.specs.Faults.{Opened, checked, parts_in}
 use Rattle.acfg_images.specs.Files as four
 use Rattle.acfg_images.specs.Restamp.{CanRestamp, restamped}
-use Rattle.acfg_images.specs.Set.{IsInfo, IsSetOf, Listed, Notes, SetParts, flags_of, has_local, has_read_write, has_server, is_read_write, listed, listed_flag, listed_key, listing, release_in, notes_in}
+use Rattle.acfg_images.specs.Set.{IsInfo, IsSetOf, Listed, Notes, SetParts, flags_of, has_local, has_read_write, has_server, listed, listed_flag, listed_key, listing, release_in, notes_in}
 use Rattle.acfg_images.specs.Words.{AreNumbered}
 use Rattle.acfg_images.proofs.Law.{checked_same, same_as_set}
-use Rattle.acfg_model.specs.declared.changes.Change.{Change}
-use Rattle.acfg_model.specs.declared.changes.Change.TheVariants.{SetServer, SetLocal, UnsetLocal}
 use Rattle.acfg_model.specs.declared.containers.FlagState.{FlagState}
-use Rattle.acfg_model.specs.declared.refusals.Refusal.{Refusal}
 use Rattle.acfg_model.specs.FlagStates.{boot_renewed, picked_flag, release_in as released, row_key}
-use Rattle.acfg_model.specs.State as model
 use Rattle.acfg_model.specs.State.{BootedFlag, BootMap, Container}
-use Rattle.acfg_model.specs.Step.{IsRenewable, boot_refusal, change_refusal, changed, changed_key, entry_refusal, now_refusal, renewed_flag, set_refusal, unset_refusal, with_flag}
+use Rattle.acfg_model.specs.Step.{IsRenewable, entry_refusal, renewed_flag, with_flag}
 use Rattle.acfg_model.proofs.Renewals.{renewed_by_row}
 use Rattle.acfg_store.specs.Picked.{HasRows, pick_byte}
 use Rattle.acfg_store.specs.Renewing.{IsCopyWith, IsIndexIn, TakesFlag, renewed_boot, renewed_byte}
 use Rattle.acfg_store.specs.Stands.{boot_notes, boot_release}
 use Rattle.acfg_store.proofs.OwnKeys.{itself}
-use Rattle.acfg_store.proofs.Picking.{lawful_bits, one_at_most, reads_local, reads_server, reads_value, reads_writable, same_kind}
+use Rattle.acfg_store.proofs.Picking.{lawful_bits, one_at_most, reads_local, reads_server, reads_value, reads_writable}
 use Rattle.acfg_store.proofs.Placing.{flag_count, indexes_below, listed_is}
 use Rattle.acfg_store.proofs.Written.{one_index}
 use Rattle.acfg_views.specs.Layout.{Flag, IsListFile, ListParts, flag_info_type, flag_val_type, list_file, list_header, list_header_size, list_size}
@@ -83,9 +79,9 @@ module _ (file_type : ℕ) (file : List ℕ) (parts : ListParts) (is : IsListFil
 -- ---- which flag is renewed
 
 takes_kind : (flag : BootedFlag) → entry_refusal (Some flag) ≡ None → is_read_write flag.kind ≡ true
-takes_kind flag goes = sym (same_kind flag.kind) ∙ by_test (model.is_read_write flag.kind) refl goes
+takes_kind flag goes = by_test (is_read_write flag.kind) refl goes
   where
-    by_test : (b : Bool) → model.is_read_write flag.kind ≡ b → entry_refusal (Some flag) ≡ None → model.is_read_write flag.kind ≡ true
+    by_test : (b : Bool) → is_read_write flag.kind ≡ b → entry_refusal (Some flag) ≡ None → is_read_write flag.kind ≡ true
     by_test true is goes = is
     by_test false is goes = absurd cc
 
@@ -347,30 +343,3 @@ module _ (container : Container) (rows : List FlagState) where
       let none : get container.release key ≡ None =
       ap (λ (m : ReleaseMap). get m key) release ∙ get-map_of key_total row_key (λ (row : FlagState). facts_of row.entry) rows key ∙ ap (option_map (λ (row : FlagState). facts_of row.entry)) (row_at-gap key_total row_key rows key at gap) in
       true≢false (sym some ∙ ap is_some none)
-
--- ---- a change for now that nothing refuses
-
-settable : (facts : Option (Kind × Bool)) → set_refusal facts ≡ None → IsSome facts
-settable None goes = absurd cc
-settable (Some facts) goes = refl
-
-unsettable : (facts : Option (Kind × Bool)) (local : Option Bool) → unset_refusal facts local ≡ None → IsSome facts
-unsettable None local goes = absurd cc
-unsettable (Some facts) local goes = refl
-
-still_released : (container : Container) (change : Change) → change_refusal container.release container.local change ≡ None → IsSome (get (changed container change).release (changed_key change))
-still_released container (SetServer key value) goes = settable (get container.release key) goes
-still_released container (SetLocal key value) goes = settable (get container.release key) goes
-still_released container (UnsetLocal key) goes = unsettable (get container.release key) (get container.local key) goes
-
--- the boot copy takes another value of its flag, and the release of the changed container has it
-pub goes_now : (container : Container) (change : Change) (boot : BootMap) → container.boot ≡ Some boot → now_refusal container change ≡ None
-    → IsRenewable (Some boot) (changed_key change) × IsSome (get (changed container change).release (changed_key change))
-goes_now container change boot there goes =
-    let steps = each (change_refusal container.release container.local change) container.boot (changed_key change) goes there in
-    (steps.1, still_released container change steps.0)
-  where
-    each : (why : Option Refusal) (copy : Option BootMap) (key : Key) → boot_refusal why copy key ≡ None → copy ≡ Some boot → (why ≡ None) × (entry_refusal (get boot key) ≡ None)
-    each why None key goes there = absurd cc
-    each (Some why) (Some copy) key goes there = absurd cc
-    each None (Some copy) key goes there = (refl, ap (λ (m : BootMap). entry_refusal (get m key)) (sym (some_is copy boot there)) ∙ goes)

@@ -5,8 +5,7 @@ use Rattle.std.specs.FinMap.{get}
 use Rattle.std.specs.Option.{option_map_or}
 use Rattle.std.proofs.lemmas.List.Elements.{All-cons, All-head, All-nil, All-tail}
 use Rattle.acfg_base.specs.declared.releases.Kind.{Kind}
-use Rattle.acfg_base.specs.declared.releases.Kind.TheVariants.{ReadWrite, ReadOnly, Fixed}
-use Rattle.acfg_base.specs.Release.{Key, ReleaseMap}
+use Rattle.acfg_base.specs.Release.{Key, ReleaseMap, is_read_write}
 use Rattle.acfg_base.proofs.Keys.{key_total}
 use Rattle.acfg_base.proofs.Rows.{get-map_of}
 use Rattle.acfg_device.specs.Panel.{Files}
@@ -16,10 +15,9 @@ use Rattle.acfg_images.specs.declared.purpose.Use.{Use}
 use Rattle.acfg_images.specs.declared.purpose.Use.TheVariants as purpose
 use Rattle.acfg_images.specs.Faults.{Opened, checked}
 use Rattle.acfg_images.specs.Files as four
-use Rattle.acfg_images.specs.Set.{IsSet, Listed, Notes, SetParts, is_read_write, listed_key, listing}
+use Rattle.acfg_images.specs.Set.{IsSet, Listed, Notes, SetParts, listed_key, listing}
 use Rattle.acfg_images.proofs.Law.{no_fault, same_as_set}
 use Rattle.acfg_model.specs.State.{BootMap, IsValid, IsValidContainer, OverrideMap, State, is_writable}
-use Rattle.acfg_model.specs.State as model
 use Rattle.acfg_store.specs.declared.names.OverrideFile.TheVariants as override
 use Rattle.acfg_store.specs.declared.names.Part.{Part}
 use Rattle.acfg_store.specs.declared.names.Part.TheVariants.{Records, Release, Override, Pointer, Boot}
@@ -59,11 +57,6 @@ module _ {X : Type 0} (P : X → Type 0) where
 
 some_of : {A : Type 0} (o : Option A) (v : A) → o ≡ Some v → IsSome o
 some_of o v e = rw e refl
-
-model_kind : (kind : Kind) → model.is_read_write kind ≡ is_read_write kind
-model_kind ReadWrite = refl
-model_kind ReadOnly = refl
-model_kind Fixed = refl
 
 bit_small : (b : Bool) → bit b ≤ 1
 bit_small true = omega arith
@@ -118,7 +111,7 @@ module _ (files : Files) (dir : List ℕ) (e : Entry) (valid : IsValidContainer 
       let got : get e.container.release (listed_key row) ≡ Some (row.kind, row.value) =
       ap (λ (m : ReleaseMap). get m (listed_key row)) (sym release.is_set.release_is) ∙ get-map_of key_total listed_key (λ (row : Listed). (row.kind, row.value)) flags (listed_key row)
       ∙ ap (option_map (λ (row : Listed). (row.kind, row.value))) own in
-      sym (model_kind row.kind) ∙ sym (ap (λ (o : Option (Kind × Bool)). option_map_or (λ (f : Kind × Bool). model.is_read_write f.0) o false) got) ∙ may (listed_key row) v is
+      sym (ap (λ (o : Option (Kind × Bool)). option_map_or (λ (f : Kind × Bool). is_read_write f.0) o false) got) ∙ may (listed_key row) v is
 
   values_sound : IsSound files dir (recorded e) (Override e.override_slot override.FlagVal)
   values_sound other lists = subst (HasBytes files (path dir e.name (Override e.override_slot override.FlagVal)) 2 e.name IsValue) (same_flags other lists) (record {

@@ -8,22 +8,20 @@ use Rattle.std.proofs.lemmas.List.{get_or-map, get_or_default, length-map}
 use Rattle.std.proofs.lemmas.List.Elements.{All-contains, All-map}
 use Rattle.std.proofs.lemmas.Bool.{eqb-true}
 use Rattle.acfg_base.specs.declared.releases.Kind.{Kind}
-use Rattle.acfg_base.specs.declared.releases.Kind.TheVariants.{ReadWrite, ReadOnly, Fixed}
 use Rattle.acfg_base.specs.Places.{AreInOrder, row_at}
-use Rattle.acfg_base.specs.Release.{HasLawfulKeys, IsKey, Key, ReleaseMap, facts_of, key_cmp}
+use Rattle.acfg_base.specs.Release.{HasLawfulKeys, IsKey, Key, ReleaseMap, facts_of, key_cmp, is_read_write}
 use Rattle.acfg_base.proofs.Keys.{key_exact, key_total}
 use Rattle.acfg_base.proofs.Maps.{get-map_values}
 use Rattle.acfg_base.proofs.Rows.{AreInOrder-map, get-map_of, get-map_where, row_at-found, row_at-map, row_at-member}
 use Rattle.acfg_images.specs.declared.purpose.Use.TheVariants.{Copy}
 use Rattle.acfg_images.specs.Files as four
-use Rattle.acfg_images.specs.Set.{IsInfo, IsSetOf, Listed, SetParts, flags_of, has_local, has_read_write, has_server, index_of, is_read_write, listed_flag, listed_key, listing, notes_in, packages_of, release_in}
+use Rattle.acfg_images.specs.Set.{IsInfo, IsSetOf, Listed, SetParts, flags_of, has_local, has_read_write, has_server, index_of, listed_flag, listed_key, listing, notes_in, packages_of, release_in}
 use Rattle.acfg_images.proofs.Pigeon.{AreNumbered-below}
 use Rattle.acfg_model.specs.declared.containers.FlagState.{FlagState}
 use Rattle.acfg_model.specs.declared.views.Booted.{Booted}
 use Rattle.acfg_model.specs.FlagStates.{local_in, row_key, server_in}
 use Rattle.acfg_model.specs.FlagStates as kept
 use Rattle.acfg_model.specs.State.{BootMap, BootedFlag, OverrideMap, is_writable}
-use Rattle.acfg_model.specs.State as model
 use Rattle.acfg_model.specs.Views.{boot_of, booted_flag, booted_key}
 use Rattle.acfg_store.specs.declared.locals.LocalOverride.{LocalOverride}
 use Rattle.acfg_store.specs.declared.placed.Placed.{Placed}
@@ -91,11 +89,6 @@ module _ (kind : Kind) (released : Bool) (byte value : ℕ) (is : IsInfoOf kind 
 
 some_of : {A : Type 0} (o : Option A) (v : A) → o ≡ Some v → IsSome o
 some_of o v e = rw e refl
-
-model_kind : (kind : Kind) → model.is_read_write kind ≡ is_read_write kind
-model_kind ReadWrite = refl
-model_kind ReadOnly = refl
-model_kind Fixed = refl
 
 abbrev kind_value : Listed → Kind × Bool
 kind_value row = (row.kind, row.value)
@@ -176,7 +169,7 @@ module _ (parts : SetParts) (flags : List Placed) (are : AreFlagsOf parts flags)
               let found = row_at-found key_total placed_key flags q x is in
               let rw_kind : IsTrue (is_read_write x.found.kind) = All-contains (λ (x : Placed). IsSome (of (row_of x)) → IsTrue (is_read_write x.found.kind)) flags x may found.0 (some_of (of (row_of x)) v e) in
               let got : get (kept.release_in rows) q ≡ Some (x.found.kind, x.found.value) = get_release q ∙ ap (λ (r : Option Placed). option_map (λ (row : FlagState). facts_of row.entry) (option_map row_of r)) is in
-              ap (λ (o : Option (Kind × Bool)). option_map_or (λ (f : Kind × Bool). model.is_read_write f.0) o false) got ∙ model_kind x.found.kind ∙ rw_kind
+              ap (λ (o : Option (Kind × Bool)). option_map_or (λ (f : Kind × Bool). is_read_write f.0) o false) got ∙ rw_kind
 
     pub server_writable : All (λ (x : Placed). IsInfoAt values x (byte_in infos x.found.index)) flags → All (λ (x : Placed). IsValueAt x (byte_in values x.found.index)) flags
         → (q : Key) (v : Bool) → get (server_in rows) q ≡ Some v → IsTrue (is_writable (kept.release_in rows) q)
@@ -192,9 +185,6 @@ module _ (parts : SetParts) (flags : List Placed) (are : AreFlagsOf parts flags)
 
   abbrev booted : List Booted
   booted = map boot_row flags
-
-  pub booted_in_order : AreInOrder key_cmp booted_key booted
-  booted_in_order = AreInOrder-map key_total booted_key boot_row flags are.order
 
   get_boot : (q : Key) → get (boot_of booted) q ≡ option_map booted_flag (option_map boot_row (row_at key_cmp placed_key flags q))
   get_boot q = get-map_of key_total booted_key booted_flag booted q ∙ ap (option_map booted_flag) (row_at-map key_total booted_key boot_row flags q)
@@ -236,12 +226,12 @@ module _ (parts : SetParts) (flags : List Placed) (are : AreFlagsOf parts flags)
       ∙ ap (option_map (λ (flag : BootedFlag). (flag.kind, flag.value))) some)
 
   pub boot_noted : All (λ (row : Listed). IsTrue (has_server row.bits || has_local row.bits) → IsTrue (is_read_write row.kind)) (listing parts)
-      → (q : Key) (flag : BootedFlag) → get (boot_of booted) q ≡ Some flag → IsTrue (flag.server || flag.local) → IsTrue (model.is_read_write flag.kind)
+      → (q : Key) (flag : BootedFlag) → get (boot_of booted) q ≡ Some flag → IsTrue (flag.server || flag.local) → IsTrue (is_read_write flag.kind)
   boot_noted may q flag some =
       let found = boot_found q flag some in
       let held = all_held parts flags are (λ (row : Listed). IsTrue (has_server row.bits || has_local row.bits) → IsTrue (is_read_write row.kind)) may in
       let at = All-contains (λ (x : Placed). IsTrue (has_server x.found.bits || has_local x.found.bits) → IsTrue (is_read_write x.found.kind)) flags found.0 held found.1 in
-      subst (λ (f : BootedFlag). IsTrue (f.server || f.local) → IsTrue (model.is_read_write f.kind)) found.3 (λ noted. model_kind found.0.found.kind ∙ at noted)
+      subst (λ (f : BootedFlag). IsTrue (f.server || f.local) → IsTrue (is_read_write f.kind)) found.3 (λ noted. at noted)
 
 -- ---- the notes of a boot copy's set
 

@@ -4,7 +4,7 @@ use Rattle.std.specs.Prelude.{All, IsTrue}
 use Rattle.std.specs.FinMap.{get}
 use Rattle.std.proofs.lemmas.List.{length-drop}
 use Rattle.acfg_base.specs.Places.{AreInOrder}
-use Rattle.acfg_base.specs.Release.{HasLawfulKeys, IsKey, Key, ReleaseMap, key_cmp}
+use Rattle.acfg_base.specs.Release.{HasLawfulKeys, IsKey, Key, ReleaseMap, key_cmp, is_read_write}
 use Rattle.acfg_device.specs.Panel.{Files}
 use Rattle.acfg_images.specs.declared.purpose.Use.TheVariants as purpose
 use Rattle.acfg_images.specs.Faults.{parts_in}
@@ -15,7 +15,6 @@ use Rattle.acfg_model.specs.declared.containers.FlagState.{FlagState}
 use Rattle.acfg_model.specs.declared.views.Booted.{Booted}
 use Rattle.acfg_model.specs.FlagStates.{IsLawful, container_in, release_in, row_key}
 use Rattle.acfg_model.specs.State.{BootMap, BootedFlag, Container, IsDigest, IsValidContainer}
-use Rattle.acfg_model.specs.State as model
 use Rattle.acfg_model.specs.Views.{boot_of}
 use Rattle.acfg_store.specs.declared.boots.BootFiles.{BootFiles}
 use Rattle.acfg_store.specs.declared.containers.Kept.{Kept}
@@ -41,7 +40,7 @@ use Rattle.acfg_views.proofs.Parts.{open_list_has_parts}
 -- what makes a container valid of its boot copy
 pub record IsBootValid (boot : Option BootMap) : Type 0 where
   pub booted : (map : BootMap) (key : Key) (flag : BootedFlag) → boot ≡ Some map → get map key ≡ Some flag → IsKey key
-  pub noted : (map : BootMap) (key : Key) (flag : BootedFlag) → boot ≡ Some map → get map key ≡ Some flag → IsTrue (flag.server || flag.local) → IsTrue (model.is_read_write flag.kind)
+  pub noted : (map : BootMap) (key : Key) (flag : BootedFlag) → boot ≡ Some map → get map key ≡ Some flag → IsTrue (flag.server || flag.local) → IsTrue (is_read_write flag.kind)
 
 pub unbooted : IsBootValid None
 unbooted = record { booted = λ map key flag some got. absurd cc; noted = λ map key flag some got noted. absurd cc }

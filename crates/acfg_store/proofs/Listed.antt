@@ -5,9 +5,9 @@ use Rattle.std.proofs.lemmas.List.{length-append, append-nil, flat_map_more}
 use Rattle.std.proofs.lemmas.List.Concat.{flat_map-cons}
 use Rattle.std.proofs.lemmas.List.Elements.{All-head, All-tail}
 use Rattle.std.specs.FinMap.{is_sorted}
-use Rattle.acfg_base.specs.Places.{AreInOrder}
+use Rattle.acfg_base.specs.Places.{AreInOrder, SomeStepDown}
 use Rattle.acfg_base.proofs.Rows.{first_true, second_true, true_of, T_of}
-use Rattle.acfg_store.specs.Taken.{IsPrefix, AreRows, SomeStepDown}
+use Rattle.acfg_store.specs.Taken.{IsPrefix, AreRows}
 
 module _ {X : Type 0} (spelled : X → List ℕ) (IsLawful : X → Type 0) (unique : IsPrefix spelled IsLawful) where
   -- rows that begin a text begin each list of rows that is all of it, if that has as many

@@ -9,7 +9,7 @@ use Rattle.std.specs.Cmp.{tied_itself}
 use Rattle.std.specs.Option.{option_map_or}
 use Rattle.acfg_base.specs.declared.releases.Kind.{Kind}
 use Rattle.acfg_base.specs.Places.{AreInOrder, row_at}
-use Rattle.acfg_base.specs.Release.{Key, ReleaseMap, key_cmp}
+use Rattle.acfg_base.specs.Release.{Key, ReleaseMap, key_cmp, is_read_write}
 use Rattle.acfg_base.proofs.Keys.{key_total, key_exact}
 use Rattle.acfg_base.proofs.Maps.{get-map_values}
 use Rattle.acfg_base.proofs.Rows.{AreInOrder-same_keys, get-map_of, row_at-found, row_at-member}
@@ -18,9 +18,8 @@ use Rattle.acfg_images.specs.declared.fault.FileType.{FileType}
 use Rattle.acfg_images.specs.declared.purpose.Use.{Use}
 use Rattle.acfg_images.specs.declared.purpose.Use.TheVariants as purpose
 use Rattle.acfg_images.specs.Files as four
-use Rattle.acfg_images.specs.Set.{IsSet, IsSetOf, Listed, Notes, SetParts, is_read_write, listed_key, listing, release_in, notes_in}
+use Rattle.acfg_images.specs.Set.{IsSet, IsSetOf, Listed, Notes, SetParts, listed_key, listing, release_in, notes_in}
 use Rattle.acfg_model.specs.State.{BootMap, BootedFlag, Container, IsValid, IsValidContainer, OverrideMap, State, is_writable, name_cmp}
-use Rattle.acfg_model.specs.State as model
 use Rattle.acfg_views.specs.Layout.{ListParts}
 use Rattle.acfg_model.proofs.Kept.{name_total}
 use Rattle.acfg_store.specs.declared.locals.LocalOverride.{LocalOverride}
@@ -88,7 +87,7 @@ one_overrides : (parts : SetParts) (a b : OverrideMap)
 one_overrides parts a b a-writable b-writable same = same_map key_total key_exact a b one_at
   where
     unwritable : (key : Key) → get (release_in parts) key ≡ None → IsTrue (is_writable (release_in parts) key) → ⊥
-    unwritable key none is = absurd (true≢false (sym is ∙ ap (λ (facts : Option (Kind × Bool)). option_map_or (λ (f : Kind × Bool). model.is_read_write f.0) facts false) none))
+    unwritable key none is = absurd (true≢false (sym is ∙ ap (λ (facts : Option (Kind × Bool)). option_map_or (λ (f : Kind × Bool). is_read_write f.0) facts false) none))
 
     absent : (m : OverrideMap) → ((key : Key) (value : Bool) → get m key ≡ Some value → IsTrue (is_writable (release_in parts) key)) → (key : Key) → get (release_in parts) key ≡ None → get m key ≡ None
     absent m writable key none =

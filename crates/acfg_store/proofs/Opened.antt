@@ -9,7 +9,7 @@ use Rattle.acfg_base.specs.Names.{IsContainer}
 use Rattle.acfg_base.specs.Places.{AreInOrder, row_at}
 use Rattle.acfg_base.proofs.Rows.{AreInOrder-same_keys, get-map_of, len-map_of, row_at-found}
 use Rattle.acfg_device.specs.Panel.{Files}
-use Rattle.acfg_model.specs.State.{Container, IsDigest, IsValid, IsValidContainer, name_cmp}
+use Rattle.acfg_model.specs.State.{Container, IsValid, IsValidContainer, name_cmp}
 use Rattle.acfg_model.proofs.Kept.{name_exact, name_total}
 use Rattle.acfg_store.specs.declared.names.Part.TheVariants.{Records}
 use Rattle.acfg_store.specs.declared.records.Recorded.{Recorded}
@@ -26,9 +26,6 @@ use Rattle.acfg_store.proofs.Damaging.{all_whole, none_first}
 
 abbrev Valid : Entry → Type 0
 Valid entry = IsValidContainer entry.container
-
-pub records_digests : (rows : List Recorded) → AreRecords rows → All (λ row. IsDigest row.digest) rows
-records_digests rows are k d within = (are.each k d within).digest
 
 module _ (es : List Entry) (are : AreRecords (map recorded es)) (valid : All Valid es) where
   pub entries_in_order : AreInOrder name_cmp entry_name es
@@ -97,21 +94,6 @@ first_row files dir es behind row name valid held at = record {
   first = first_there (IsWhole files dir) (map recorded es) behind row (all_whole files dir es valid held) (λ whole. none_first (IsSound files dir row) (parts_of row) at.part whole at.first);
   at = at;
 }
-
--- tells the first file at fault
-pub rows_damaged : (files : Files) (dir : List ℕ) (rows : List Recorded) (bytes name : List ℕ) → files (path dir [] Records) ≡ Some bytes → SpellsRecords bytes rows → IsPartOfRows files dir rows name
-    → IsDamaged files dir name
-rows_damaged files dir rows bytes name there spells of = inr (record {
-  bytes = bytes;
-  there = there;
-  rows = rows;
-  spells = spells;
-  row = of.row;
-  first_row = of.first;
-  part = of.at.part;
-  first_part = of.at.first;
-  name_is = of.at.name_is;
-})
 
 pub no_list : (files : Files) (dir bytes name : List ℕ) → files (path dir [] Records) ≡ Some bytes → ((rows : List Recorded) → SpellsRecords bytes rows → ⊥) → name ≡ path dir [] Records → IsDamaged files dir name
 no_list files dir bytes name there none is = inl (record { bytes = bytes; there = there; none = none; name_is = is })

@@ -2,7 +2,8 @@
 use Rattle.std.proofs.Common.{◌≡◌, ℕ, ◌<◌, List, length, get_or, slice_index, Option, refl, sym, ap, ◌∙◌, subst, arith}
 use Rattle.std.proofs.lemmas.List.{get_or-drop, length-drop}
 use Rattle.std.specs.Prelude.{All, IsSome, IsTrue}
-use Rattle.acfg_images.specs.Set.{Listed, SetParts, is_read_write, listing}
+use Rattle.acfg_base.specs.Release.{is_read_write}
+use Rattle.acfg_images.specs.Set.{Listed, SetParts, listing}
 use Rattle.acfg_images.proofs.Law.{has_count}
 use Rattle.acfg_store.specs.declared.locals.LocalOverride.{LocalOverride}
 use Rattle.acfg_store.specs.declared.placed.Placed.{Placed}

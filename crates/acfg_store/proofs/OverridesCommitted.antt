@@ -35,7 +35,7 @@ use Rattle.acfg_store.specs.declared.names.Part.TheVariants.{Boot, NewRecords, O
 use Rattle.acfg_store.specs.declared.names.Slot.{Slot}
 use Rattle.acfg_store.specs.declared.names.Slot.TheVariants.{Zero, One}
 use Rattle.acfg_store.specs.declared.planning.Plan.{Plan}
-use Rattle.acfg_store.specs.Commits.{ChangesOne, IsCommit, IsLayout, LeavesEither, LeavesState}
+use Rattle.acfg_store.specs.Commits.{ChangesOne, IsCommit, IsLayout, LeavesState, IsEitherState}
 use Rattle.acfg_store.specs.Kept.{entry_of, sets_of}
 use Rattle.acfg_store.specs.Names.{IsOfDirectory, path}
 use Rattle.acfg_store.specs.Opening.{AreKept, KeepsFiles, all_sets_of, entries_of}
@@ -400,7 +400,7 @@ module _ (dir : List ℕ) (old new : List Kept) (name : List ℕ) (change : Chan
 
         pub cut_either : (spoken : List ℕ) (left : Files) (said : List ℕ)
             → IsEither first spoken (λ other. IsNameAmong files other ⊎ (other ≡ second)) (replaced second first_name bytes (written files first)) left said
-            → LeavesEither first spoken dir (entries_of old) (entries_of new) left said
+            → LeavesState first spoken dir (IsEitherState (entries_of old) (entries_of new)) left said
         cut_either spoken left said either =
             commit_leaves dir (entries_of old) (entries_of new) spare first after spoken left said committed
             (subst (λ (t : List NewFile × (List ℕ × Files)). IsEither first spoken (λ (other : List ℕ). IsNameAmong t.0 other ⊎ (other ≡ t.1.0)) t.1.1 left said)

@@ -10,16 +10,16 @@ use Rattle.std.proofs.lemmas.List.Elements.{All-contains}
 use Rattle.std.proofs.lemmas.Bool.{eqb-true}
 use Rattle.std.proofs.lemmas.Simd.{map-map}
 use Rattle.acfg_base.specs.declared.releases.Kind.{Kind}
-use Rattle.acfg_base.specs.declared.releases.Kind.TheVariants.{ReadWrite, ReadOnly, Fixed}
+use Rattle.acfg_base.specs.declared.releases.Kind.TheVariants.{ReadWrite}
 use Rattle.acfg_base.specs.Places.{AreInOrder, StandsAt, map_of, row_at}
-use Rattle.acfg_base.specs.Release.{Key, ReleaseMap, entries_of, facts_of, key_cmp}
+use Rattle.acfg_base.specs.Release.{Key, ReleaseMap, entries_of, facts_of, key_cmp, is_read_write}
 use Rattle.acfg_base.proofs.Keys.{key_exact, key_total}
 use Rattle.acfg_base.proofs.Maps.{get-map_values}
 use Rattle.acfg_base.proofs.Rows.{get-map_of, get-map_where, row_at-found, row_at-map}
 use Rattle.acfg_images.specs.declared.purpose.Use.TheVariants as purpose
 use Rattle.acfg_images.specs.Files as four
 use Rattle.acfg_images.specs.Restamp.{CanRestamp, restamped}
-use Rattle.acfg_images.specs.Set.{IsInfo, IsSet, IsSetOf, Listed, SetParts, flags_of, has_local, has_read_write, has_server, index_of, is_read_write, listed_flag, listed_key, listing, notes_in, packages_of}
+use Rattle.acfg_images.specs.Set.{IsInfo, IsSet, IsSetOf, Listed, SetParts, flags_of, has_local, has_read_write, has_server, index_of, listed_flag, listed_key, listing, notes_in, packages_of}
 use Rattle.acfg_images.specs.Set as images
 use Rattle.acfg_images.specs.Words.{AreNumbered}
 use Rattle.acfg_images.proofs.Pigeon.{counted_some}
@@ -235,11 +235,6 @@ module _ (set : four.Files) (parts : SetParts) (rows : List FlagState) (indexes 
 
 -- ---- a container's rows
 
-pub same_kind : (kind : Kind) → model.is_read_write kind ≡ is_read_write kind
-same_kind ReadWrite = refl
-same_kind ReadOnly = refl
-same_kind Fixed = refl
-
 -- overrides stand on read-write flags, where the container is valid
 pub writable_rows : (container : Container) → model.IsValidContainer container → (rows : List FlagState) → AreInOrder key_cmp row_key rows → HasRows container rows → AreOnWritable rows
 writable_rows container valid rows order has k d within noted =
@@ -259,9 +254,9 @@ writable_rows container valid rows order has k d within noted =
         → ((value : Bool) → get container.local (row_key row) ≡ Some value → IsTrue (model.is_writable container.release (row_key row)))
         → (server local : Option Bool) → get container.server (row_key row) ≡ server → get container.local (row_key row) ≡ local → IsTrue (is_some server || is_some local) → IsTrue (is_read_write row.entry.kind)
     by_override row released by_server by_local (Some value) local s l noted =
-        sym (same_kind row.entry.kind) ∙ ap (λ f. option_map_or (λ f. model.is_read_write f.0) f false) (sym released) ∙ by_server value s
+        ap (λ f. option_map_or (λ f. is_read_write f.0) f false) (sym released) ∙ by_server value s
     by_override row released by_server by_local None (Some value) s l noted =
-        sym (same_kind row.entry.kind) ∙ ap (λ f. option_map_or (λ f. model.is_read_write f.0) f false) (sym released) ∙ by_local value l
+        ap (λ f. option_map_or (λ f. is_read_write f.0) f false) (sym released) ∙ by_local value l
     by_override row released by_server by_local None None s l noted = cc
 
 -- the flags of a release whose set was found in one way are those that it lists in each

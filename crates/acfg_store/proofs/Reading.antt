@@ -3,12 +3,12 @@ use Rattle.std.proofs.Common.{◌≡◌, ℕ, ◌^◌, ◌<◌, ◌≤◌, List,
 use Rattle.std.specs.List.{flat_map, All}
 use Rattle.std.specs.Ordering.{nat_cmp}
 use Rattle.std.proofs.lemmas.List.{append_cancel_left}
+use Rattle.acfg_base.specs.Found.{Finds}
 use Rattle.acfg_base.specs.Places.{AreInOrder}
 use Rattle.acfg_model.specs.State.{name_cmp, most_containers}
 use Rattle.acfg_views.specs.Fields.{number}
 use Rattle.acfg_store.specs.declared.locals.LocalOverride.{LocalOverride}
 use Rattle.acfg_store.specs.declared.records.Recorded.{Recorded}
-use Rattle.acfg_store.specs.Found.{Finds}
 use Rattle.acfg_store.specs.Keys.{recorded_name, local_index}
 use Rattle.acfg_store.specs.Records.{recorded_bytes, records_header, records_bytes, IsRecorded, AreRecords, SpellsRecords, local_bytes, locals_bytes, IsLocal, SpellsLocals}
 use Rattle.acfg_store.specs.Taken.{IsPrefix, AreRows}

@@ -87,9 +87,6 @@ module _ (dir : List ℕ) (name : List ℕ) (slot : Slot) (made : four.Files) (f
   past before file part other named apart =
       update_apart before (string_bytes file.name) (Some file.bytes.items) (path dir name part) (λ same. apart (path_part dir dir name name part other (same ∙ named)))
 
-  in_slot : FileType → Part
-  in_slot file = Boot slot file
-
   -- the files of the slot hold the set
   stand_written : AreFiles (written files first) (λ (file : FileType). path dir name (Boot slot file)) made
   stand_written = record {

@@ -14,13 +14,13 @@ use Rattle.acfg_images.specs.Files as four
 use Rattle.acfg_model.specs.State.{BootMap, Container, IsValidContainer}
 use Rattle.acfg_model.specs.Step.{IsRenewable, renewed, renewed_flag, with_flag}
 use Rattle.acfg_model.proofs.Valid.{IsValidContainer-renewed}
+use Rattle.acfg_store.specs.Commits.{IsEitherState, LeavesState}
 use Rattle.acfg_store.specs.declared.booting.CopyPlan.{CopyPlan}
 use Rattle.acfg_store.specs.declared.containers.BootSlot.{BootSlot}
 use Rattle.acfg_store.specs.declared.containers.Kept.{Kept}
 use Rattle.acfg_store.specs.declared.names.Part.TheVariants.{Boot}
 use Rattle.acfg_store.specs.Applied.{IsOpen}
 use Rattle.acfg_store.specs.BootPlans.{IsCopyPlan, IsRenewalPlan, IsRenewedBy, LeavesRenewed, TakesCopy, named_slot, renewed_at, renewed_entry, spare_slot, with_copy}
-use Rattle.acfg_store.specs.Commits.{LeavesEither}
 use Rattle.acfg_store.specs.Kept.{HasCopy, IsCopied, IsCopySet, entry_of}
 use Rattle.acfg_store.specs.Names.{IsOfDirectory, path}
 use Rattle.acfg_store.specs.Opening.{AreKept, entries_of}
@@ -104,7 +104,7 @@ module _ (dir : List ℕ) (old : List Kept) (kept : AreKept old) (at : ℕ) (wit
           → IsEither first spoken (λ other. IsNameAmong files other ⊎ (other ≡ beside)) (replaced beside name bytes (written files first)) left said
           → LeavesRenewed first spoken dir (entries_of old) at key left said
       renewal_leaves spoken left said either other =
-          subst (λ (later : List Entry). LeavesEither first spoken dir (entries_of old) later left said) (later_is other)
+          subst (λ (later : List Entry). LeavesState first spoken dir (IsEitherState (entries_of old) later) left said) (later_is other)
           (copy_leaves dir old kept at within one is plan planned.writes first opened.layout opened.kept boot copy valid files beside name bytes files_are beside_is name_is bytes_are spoken left said either)
 
       pub open_renewed : (mine : Kept) → mine ≡ get_or old at mine → (new : Kept) → IsRenewedBy plan.boot key mine new → (now : Files) → now ≡ replaced beside name bytes (written files first) → IsOpen now (view_of dir (set old at new))

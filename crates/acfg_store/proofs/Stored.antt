@@ -1,5 +1,5 @@
 -- What is told of a directory that is opened as a store.
-use Rattle.std.proofs.Common.{◌≡◌, ℕ, zero, suc, ◌+◌, ◌<◌, List, [], ◌∷◌, ◌++◌, map, length, get_or, take, drop, add-one, Some, None, inr, refl, sym, ap, ◌∙◌, subst, arith, drop-cons}
+use Rattle.std.proofs.Common.{◌≡◌, ℕ, zero, suc, ◌+◌, ◌<◌, List, [], ◌∷◌, ◌++◌, map, length, get_or, take, drop, add-one, None, inr, refl, sym, ap, ◌∙◌, subst, arith, drop-cons}
 use Rattle.std.specs.Prelude.{All}
 use Rattle.std.proofs.lemmas.List.{length-map, map-append, take-append-drop, take_more}
 use Rattle.std.proofs.lemmas.List.Elements.{All-append, All-cons, All-head, All-nil, All-tail}
@@ -8,7 +8,6 @@ use Rattle.acfg_device.specs.Account.{Account}
 use Rattle.acfg_device.specs.Disk.{MayLeave}
 use Rattle.acfg_device.specs.Left.{LeavesSince}
 use Rattle.acfg_device.specs.Panel.{Files}
-use Rattle.acfg_device.specs.declared.panel.ReadFault.{ReadFault}
 use Rattle.acfg_device.specs.declared.panel.ReadFault.TheVariants as read
 use Rattle.acfg_device.proofs.Moments.{started, stays}
 use Rattle.acfg_model.specs.State.{IsValidContainer}
@@ -23,19 +22,15 @@ use Rattle.acfg_store.specs.Commits.{IsLayout}
 use Rattle.acfg_store.specs.Judged.{Blames}
 use Rattle.acfg_store.specs.Kept.{IsCopied, IsFaultWhere, IsIndexed, entry_of, sets_of}
 use Rattle.acfg_store.specs.Names.{path}
-use Rattle.acfg_store.specs.Opening.{AreKept, AreOfRows, IsPartOfRows, KeepsFiles, TellsOfRow, TellsOfRows, all_sets_of, entries_of}
-use Rattle.acfg_store.specs.Records.{AreRecords, SpellsRecords}
+use Rattle.acfg_store.specs.Opening.{AreOfRows, IsPartOfRows, KeepsFiles, TellsOfRow, TellsOfRows, all_sets_of, entries_of}
+use Rattle.acfg_store.specs.Records.{AreRecords}
 use Rattle.acfg_store.specs.Sets.{AreSetsOf, AreSetsOfAll, Sets}
 use Rattle.acfg_store.specs.Stands.{Entry, Holds, recorded}
-use Rattle.acfg_store.specs.Store.{TellsDamage}
-use Rattle.acfg_store.specs.StoreFaults.{NamesPart, fault_of}
-use Rattle.acfg_store.proofs.Opened.{first_row, layout_valid, rows_damaged}
+use Rattle.acfg_store.specs.StoreFaults.{NamesPart}
+use Rattle.acfg_store.proofs.Opened.{first_row, layout_valid}
 
 none_recorded : AreRecords (map recorded [])
 none_recorded = record { bound = omega arith; each = λ k d within. absurd (omega arith); order = refl }
-
-pub none_kept : AreKept []
-none_kept = record { listed = none_recorded; valid = All-nil (λ (e : Entry). IsValidContainer e.container); indexed = All-nil IsIndexed; copied = All-nil IsCopied }
 
 -- a directory without a list has no containers
 pub none_lie : (files : Files) (dir : List ℕ) → files (path dir [] Records) ≡ None → IsLayout files dir []
@@ -43,18 +38,6 @@ none_lie files dir none = record {
   lies = record { listed = inr (refl, none); lawful = none_recorded; each = All-nil (Holds files dir) };
   valid = layout_valid [] none_recorded (All-nil (λ (e : Entry). IsValidContainer e.container));
 }
-
-pub rows_kept : (bytes : List ℕ) (rows : List Recorded) (kept : List Kept) → SpellsRecords bytes rows → AreOfRows rows kept → AreKept kept
-rows_kept bytes rows kept spells of = record { listed = subst AreRecords (sym of.listed) spells.lawful; valid = of.valid; indexed = of.indexed; copied = of.copied }
-
--- what a read that fails tells
-pub read_told : (files : Files) (dir : List ℕ) (fault : ReadFault) (made : StoreFault) → made ≡ fault_of fault → TellsDamage files dir made
-read_told files dir read.Failed made is = subst (TellsDamage files dir) (sym is) tt
-read_told files dir read.OutOfMemory made is = subst (TellsDamage files dir) (sym is) tt
-
-pub read_row_told : (files : Files) (dir : List ℕ) (row : Recorded) (fault : ReadFault) (made : StoreFault) → made ≡ fault_of fault → TellsOfRow files dir row made
-read_row_told files dir row read.Failed made is = subst (TellsOfRow files dir row) (sym is) tt
-read_row_told files dir row read.OutOfMemory made is = subst (TellsOfRow files dir row) (sym is) tt
 
 -- what a container's fault tells
 pub row_told : (files : Files) (dir : List ℕ) (row : Recorded) (Given : Files → List ℕ → Type 0) → Given files dir → (fault : Fault Part) → Blames (IsFaultWhere row Given) fault
@@ -67,20 +50,9 @@ row_told files dir row Given given fault blamed (Damaged name) names = record {
 row_told files dir row Given given fault blamed Device names = absurd names
 row_told files dir row Given given fault blamed OutOfMemory names = tt
 
--- what the first container at fault tells of the directory
-pub rows_told : (files : Files) (dir : List ℕ) (rows : List Recorded) (bytes : List ℕ) → files (path dir [] Records) ≡ Some bytes → SpellsRecords bytes rows → (fault : StoreFault) → TellsOfRows files dir rows fault
-    → TellsDamage files dir fault
-rows_told files dir rows bytes there spells (Damaged name) told = rows_damaged files dir rows bytes _ there spells told
-rows_told files dir rows bytes there spells Device told = tt
-rows_told files dir rows bytes there spells OutOfMemory told = tt
-
 -- a call that only reads leaves what could be left before
 pub reads_leave : (before after : Account) → after ≡ before → LeavesSince before after (MayLeave before.now)
 reads_leave before after same = stays (MayLeave before.now) before before after (started (MayLeave before.now) before (λ files said leaves. leaves)) same
-
-pub reads_around : (before first second after : Account) → first ≡ before → after ≡ second → LeavesSince first second (MayLeave first.now) → LeavesSince before after (MayLeave before.now)
-reads_around before first second after start end leaves =
-    subst (λ (a : Account). LeavesSince before a (MayLeave before.now)) (sym end) (subst (λ (a : Account). LeavesSince a second (MayLeave a.now)) start leaves)
 
 -- ---- container by container
 

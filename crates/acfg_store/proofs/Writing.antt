@@ -6,12 +6,12 @@ use Rattle.std.proofs.lemmas.List.{get_or_default, length-map}
 use Rattle.std.proofs.lemmas.List.Elements.{All-contains}
 use Rattle.acfg_base.specs.declared.releases.Kind.TheVariants.{ReadOnly}
 use Rattle.acfg_base.specs.Places.{row_at}
-use Rattle.acfg_base.specs.Release.{facts_of, key_cmp}
+use Rattle.acfg_base.specs.Release.{facts_of, key_cmp, is_read_write}
 use Rattle.acfg_base.proofs.Keys.{key_total}
 use Rattle.acfg_base.proofs.Rows.{get-map_where}
 use Rattle.acfg_images.specs.declared.purpose.Use.TheVariants as purpose
 use Rattle.acfg_images.specs.Files as four
-use Rattle.acfg_images.specs.Set.{Listed, SetParts, flags_of, is_read_write, listed_flag, listed_key, listing}
+use Rattle.acfg_images.specs.Set.{Listed, SetParts, flags_of, listed_flag, listed_key, listing}
 use Rattle.acfg_images.proofs.Restamped.{list_again}
 use Rattle.acfg_model.specs.declared.containers.FlagState.{FlagState}
 use Rattle.acfg_model.specs.FlagStates.{row_key, server_in}

@@ -18,8 +18,9 @@ use Rattle.acfg_images.specs.Files as four
 use Rattle.acfg_images.specs.Set.{Listed, SetParts, flags_of, listed_flag, listed_key, listing}
 use Rattle.acfg_images.specs.Words.{AreNumbered}
 use Rattle.acfg_images.proofs.Pigeon.{AreNumbered-below, counted_twice}
+use Rattle.acfg_model.specs.Bodies.{entry_in}
 use Rattle.acfg_model.specs.declared.containers.FlagState.{FlagState}
-use Rattle.acfg_model.specs.FlagStates.{entry_in, release_in, row_key}
+use Rattle.acfg_model.specs.FlagStates.{release_in, row_key}
 use Rattle.acfg_store.specs.Kept.{index_listed}
 use Rattle.acfg_store.specs.Stamped.{AreFlagsIn, ArePut}
 use Rattle.acfg_store.proofs.OwnKeys.{own_keys}

@@ -12,6 +12,7 @@ use Rattle.acfg_images.specs.Set.{IsSetOf, SetParts}
 use Rattle.acfg_model.specs.State.{BootMap, IsValidContainer}
 use Rattle.acfg_model.specs.Step.{boot_map, booted, renewed}
 use Rattle.acfg_model.specs.Views.{boot_of}
+use Rattle.acfg_store.specs.Commits.{IsEitherState, LeavesState}
 use Rattle.acfg_store.specs.declared.booting.BootPlan.{BootPlan}
 use Rattle.acfg_store.specs.declared.booting.CopyPlan.{CopyPlan}
 use Rattle.acfg_store.specs.declared.containers.BootSlot.{BootSlot}
@@ -19,7 +20,6 @@ use Rattle.acfg_store.specs.declared.containers.Kept.{Kept}
 use Rattle.acfg_store.specs.declared.names.Part.TheVariants.{Boot, NewPointer, Pointer}
 use Rattle.acfg_store.specs.declared.names.Slot.{Slot}
 use Rattle.acfg_store.specs.declared.names.Slot.TheVariants.{Zero}
-use Rattle.acfg_store.specs.Commits.{LeavesEither}
 use Rattle.acfg_store.specs.Names.{path}
 use Rattle.acfg_store.specs.Picked.{IsCopyFor}
 use Rattle.acfg_store.specs.Records.{pointer_bytes}
@@ -120,9 +120,10 @@ pub record IsRenewedBy (boot : BootSlot) (key : Key) (old new : Kept) : Type 0 w
 -- what a cut leaves of the boot of one container
 abbrev pub LeavesBooted : (first : Files) (spoken : List ℕ) → StoreView → ℕ → Files → List ℕ → Type 0
 LeavesBooted first spoken store at files said =
-    (other : Entry) → LeavesEither first spoken store.dir store.entries (booted_at store.entries at other) files said
+    (other : Entry)
+    → LeavesState first spoken store.dir (IsEitherState store.entries (booted_at store.entries at other)) files said
 
 -- and of the renewal of one flag
 abbrev pub LeavesRenewed : (first : Files) (spoken dir : List ℕ) → List Entry → ℕ → Key → Files → List ℕ → Type 0
 LeavesRenewed first spoken dir entries at key files said =
-    (other : Entry) → LeavesEither first spoken dir entries (renewed_at entries at key other) files said
+    (other : Entry) → LeavesState first spoken dir (IsEitherState entries (renewed_at entries at key other)) files said

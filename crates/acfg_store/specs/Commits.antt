@@ -33,11 +33,9 @@ pub record LeavesState (first : Files) (spoken dir : List ℕ) (OneOf : State �
   pub stands : Stands files dir state
   pub others : SameBut (IsOfDirectory dir) first files
 
--- what a commit's cut leaves: the old state or the new one
-abbrev pub LeavesEither : (first : Files) (spoken dir : List ℕ) (entries later : List Entry) (files : Files)
-    (said : List ℕ) → Type 0
-LeavesEither first spoken dir entries later =
-    LeavesState first spoken dir (λ state. (state ≡ state_of entries) ⊎ (state ≡ state_of later))
+-- the state before a commit, or the one behind it
+abbrev pub IsEitherState : (entries later : List Entry) → State → Type 0
+IsEitherState entries later state = (state ≡ state_of entries) ⊎ (state ≡ state_of later)
 
 -- the used files of a container are as they were
 abbrev pub IsKept : (dir : List ℕ) → Entry → (first new : Files) → Type 0

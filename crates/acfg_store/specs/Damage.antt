@@ -2,6 +2,7 @@
 -- slots, in one order. A file that isn't there is found before the files of its slot are checked together.
 use Rattle.std.specs.Prelude.{◌≡◌, ℕ, ◌*◌, ◌<◌, ◌≤◌, ◌⊎◌, ⊤, List, [], ◌∷◌, length, slice_index, All, IsTrue}
 use Rattle.std.specs.Prelude.{Some, IsSome, Result, Ok, Err}
+use Rattle.acfg_base.specs.Release.{is_read_write}
 use Rattle.acfg_device.specs.Panel.{Files}
 use Rattle.acfg_images.specs.declared.fault.FileType.{FileType}
 use Rattle.acfg_images.specs.declared.fault.FileType.TheVariants as image
@@ -11,7 +12,7 @@ use Rattle.acfg_images.specs.declared.purpose.Use.{Use}
 use Rattle.acfg_images.specs.declared.purpose.Use.TheVariants as purpose
 use Rattle.acfg_images.specs.Faults.{Opened, checked, parts_in}
 use Rattle.acfg_images.specs.Files as four
-use Rattle.acfg_images.specs.Set.{Listed, listing, is_read_write}
+use Rattle.acfg_images.specs.Set.{Listed, listing}
 use Rattle.acfg_store.specs.declared.locals.LocalOverride.{LocalOverride}
 use Rattle.acfg_store.specs.declared.names.OverrideFile.{OverrideFile}
 use Rattle.acfg_store.specs.declared.names.OverrideFile.TheVariants as override

@@ -7,7 +7,6 @@ pub mod Codes
 pub mod Commits
 pub mod Copies
 pub mod Damage
-pub mod Found
 pub mod Gathered
 pub mod Judged
 pub mod Kept

@@ -1,5 +1,6 @@
 -- Private: the files of a boot copy, as they are written for the flags of a release. No public clause cites it.
 use Rattle.std.specs.Prelude.{◌≡◌, ℕ, ◌+◌, ◌*◌, List, All, IsTrue, ◌||◌, is_some, unwrap_or}
+use Rattle.acfg_base.specs.Release.{is_read_write}
 use Rattle.acfg_images.specs.declared.purpose.Use.TheVariants as purpose
 use Rattle.acfg_images.specs.Files as four
 use Rattle.acfg_images.specs.Set as images
@@ -16,12 +17,12 @@ pick_byte row = bit (unwrap_or row.local (unwrap_or row.server row.entry.value))
 
 abbrev pub noted_byte : FlagState → ℕ
 noted_byte row =
-    2 * bit (images.is_read_write row.entry.kind) + (bit (is_some row.server) + 4 * bit (is_some row.local))
+    2 * bit (is_read_write row.entry.kind) + (bit (is_some row.server) + 4 * bit (is_some row.local))
 
 -- only read-write flags have overrides
 abbrev pub AreOnWritable : List FlagState → Type 0
 AreOnWritable rows = All
-    (λ row. IsTrue (is_some row.server || is_some row.local) → IsTrue (images.is_read_write row.entry.kind)) rows
+    (λ row. IsTrue (is_some row.server || is_some row.local) → IsTrue (is_read_write row.entry.kind)) rows
 
 -- the rows are a container's flags and overrides
 pub record HasRows (container : Container) (rows : List FlagState) : Type 0 where

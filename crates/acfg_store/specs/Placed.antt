@@ -5,8 +5,8 @@ use Rattle.std.specs.Bool.{MatchBool}
 use Rattle.acfg_base.specs.declared.releases.Entry.{Entry}
 use Rattle.acfg_base.specs.declared.releases.Kind.{Kind}
 use Rattle.acfg_base.specs.Places.{AreInOrder, row_at}
-use Rattle.acfg_base.specs.Release.{Key, key_cmp}
-use Rattle.acfg_images.specs.Set.{Listed, SetParts, has_local, has_server, is_read_write, listed, listed_key, listing}
+use Rattle.acfg_base.specs.Release.{Key, key_cmp, is_read_write}
+use Rattle.acfg_images.specs.Set.{Listed, SetParts, has_local, has_server, listed, listed_key, listing}
 use Rattle.acfg_lookup.specs.Lookup.{flag_found}
 use Rattle.acfg_model.specs.declared.containers.FlagState.{FlagState}
 use Rattle.acfg_model.specs.declared.views.Booted.{Booted}

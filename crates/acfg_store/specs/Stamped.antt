@@ -2,7 +2,7 @@
 use Rattle.std.specs.Prelude.{◌≡◌, ℕ, ◌+◌, ◌*◌, ◌-◌, ◌<◌, List, ◌++◌, length, map, take, slice_index}
 use Rattle.std.specs.Prelude.{Some, is_some, unwrap_or}
 use Rattle.acfg_base.specs.Places.{AreInOrder}
-use Rattle.acfg_base.specs.Release.{entries_of, key_cmp}
+use Rattle.acfg_base.specs.Release.{entries_of, key_cmp, is_read_write}
 use Rattle.acfg_images.specs.declared.purpose.Use.TheVariants as purpose
 use Rattle.acfg_images.specs.Files as four
 use Rattle.acfg_images.specs.Set as images
@@ -16,7 +16,7 @@ abbrev pub value_byte : FlagState → ℕ
 value_byte row = bit (unwrap_or row.server row.entry.value)
 
 abbrev pub info_byte : FlagState → ℕ
-info_byte row = 2 * bit (images.is_read_write row.entry.kind) + bit (is_some row.server)
+info_byte row = 2 * bit (is_read_write row.entry.kind) + bit (is_some row.server)
 
 -- at each of the first so many indexes stands the byte of one that has it
 abbrev pub ArePut : (indexes bytes : List ℕ) → ℕ → List ℕ → Type 0

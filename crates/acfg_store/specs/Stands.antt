@@ -5,13 +5,13 @@ use Rattle.std.specs.Prelude.{Option, Some, None, IsSomeAnd, option_map, unwrap_
 use Rattle.std.specs.FinMap.{get, contains_key}
 use Rattle.acfg_base.specs.Maps.{map_values}
 use Rattle.acfg_base.specs.Places.{map_of}
-use Rattle.acfg_base.specs.Release.{ReleaseMap}
+use Rattle.acfg_base.specs.Release.{ReleaseMap, is_read_write}
 use Rattle.acfg_device.specs.Panel.{Files}
 use Rattle.acfg_images.specs.declared.fault.FileType.{FileType}
 use Rattle.acfg_images.specs.declared.fault.FileType.TheVariants as image
 use Rattle.acfg_images.specs.declared.purpose.Use.TheVariants as purpose
 use Rattle.acfg_images.specs.Files as four
-use Rattle.acfg_images.specs.Set.{Listed, listed_key, listing, IsSet, Notes, is_read_write}
+use Rattle.acfg_images.specs.Set.{Listed, listed_key, listing, IsSet, Notes}
 use Rattle.acfg_model.specs.State.{BootMap, Container, IsValid, OverrideMap, State, name_cmp}
 use Rattle.acfg_store.specs.declared.locals.LocalOverride.{LocalOverride}
 use Rattle.acfg_store.specs.declared.names.OverrideFile.{OverrideFile}

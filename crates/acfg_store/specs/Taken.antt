@@ -1,8 +1,6 @@
 -- Private: what readers take from the front of bytes. No public clause cites it.
-use Rattle.std.specs.Prelude.{◌≡◌, ℕ, ◌+◌, ◌<◌, List, ◌++◌, length, slice_index_or, Option, MatchOption, All, false}
+use Rattle.std.specs.Prelude.{◌≡◌, ℕ, List, ◌++◌, length, Option, MatchOption, All}
 use Rattle.std.specs.List.{flat_map}
-use Rattle.std.specs.Ordering.{is_lt}
-use Rattle.std.specs.declared.cmp.Ordering.{Ordering}
 
 -- the lawful value that stands at the front of the bytes, and what is behind it; and none exactly where no lawful value
 -- stands there
@@ -21,9 +19,3 @@ pub record AreRows {X : Type 0} (spelled : X → List ℕ) (IsLawful : X → Typ
   pub many : length rows ≡ count
   pub each : All IsLawful rows
   pub are : bytes ≡ flat_map spelled rows
-
--- some row's key isn't below the next one's
-abbrev pub SomeStepDown : {K Y : Type 0} → (K → K → Ordering) → (Y → K) → List Y → Type 0
-SomeStepDown {K} {Y} cmp key rows =
-    (k : ℕ) × (k + 1 < length rows)
-    × ((d : Y) → is_lt (cmp (key (slice_index_or rows k d)) (key (slice_index_or rows (k + 1) d))) ≡ false)

@@ -12,7 +12,7 @@ ghost use Rattle.acfg_store.specs.declared.names.Part.TheVariants.{Records};
 ghost use Rattle.acfg_model.specs.State.{State, name_cmp};
 ghost use Rattle.acfg_store.specs.declared.locals.LocalOverride.{LocalOverride};
 ghost use Rattle.acfg_store.specs.declared.records.Recorded.{Recorded};
-ghost use Rattle.acfg_store.specs.Commits.{ChangesOne, IsCommit, LeavesEither};
+ghost use Rattle.acfg_store.specs.Commits.{ChangesOne, IsCommit, IsEitherState, LeavesState};
 ghost use Rattle.acfg_store.specs.Damage.{HoldBytes, IsDamaged};
 ghost use Rattle.acfg_store.specs.Names.{path, source_path};
 ghost use Rattle.acfg_store.specs.Records.{SpellsLocals, SpellsRecords};
@@ -76,7 +76,7 @@ pub fn commits_leave_states()
     ensures { (dir : List ℕ) (entries later : List Entry) (spare : List (List ℕ)) (first new : Files)
         (spoken : List ℕ) (files : Files) (said : List ℕ) → IsCommit dir entries later (Contains spare) first new
         → IsEither first spoken (Contains spare) new files said
-        → LeavesEither first spoken dir entries later files said }
+        → LeavesState first spoken dir (IsEitherState entries later) files said }
 {}
 
 /// Containers lie in a directory with one of them changed where the list has it, the new files hold it, and the used

@@ -1,7 +1,7 @@
 //! `local`: the local overrides of a container.
 
 ghost use Rattle.std.specs.Prelude.{◌≡◌, ◌^◌, ◌<◌, IfOk, length};
-ghost use Rattle.acfg_store.specs.Found.{Finds};
+ghost use Rattle.acfg_base.specs.Found.{Finds};
 ghost use Rattle.acfg_store.specs.Records.{SpellsLocals, locals_bytes};
 
 use crate::fields::{bit_byte, put_u8, put_u32, take_bit, take_u32};

@@ -1,12 +1,12 @@
 //! An override slot: whether its files are sound, and the flags with the overrides that they hold.
 
 ghost use Rattle.std.specs.Prelude.{◌≡◌, ◌<◌, All, IfOk, IsSome, IsTrue, MatchBool, map as mapped};
-ghost use Rattle.acfg_images.specs.Set.{is_read_write};
 ghost use Rattle.acfg_views.specs.Layout.{flag_info_type, flag_val_type};
 ghost use Rattle.acfg_views.specs.Reading.{byte_in};
+ghost use Rattle.acfg_base.specs.Found.{Finds};
 ghost use Rattle.acfg_base.specs.Places.{AreInOrder, IsPlace};
+ghost use Rattle.acfg_base.specs.Release.{is_read_write};
 ghost use Rattle.std.specs.Ordering.{nat_cmp};
-ghost use Rattle.acfg_store.specs.Found.{Finds};
 ghost use Rattle.acfg_store.specs.Keys.{local_index};
 ghost use Rattle.acfg_store.specs.Placed.{AreLocalsOver, IsAll, IsInfoAt, IsInfoOf, IsListOver, IsValueAt};
 ghost use Rattle.acfg_store.specs.Placed.{entry_at_row, server_at, state_row};

@@ -1,7 +1,7 @@
 //! The boot pointer: one byte, the number of a slot.
 
 ghost use Rattle.std.specs.Prelude.{◌≡◌, IfOk};
-ghost use Rattle.acfg_store.specs.Found.{Finds};
+ghost use Rattle.acfg_base.specs.Found.{Finds};
 ghost use Rattle.acfg_store.specs.Records.{pointer_bytes};
 
 use crate::fields::slot_byte;

@@ -1,8 +1,8 @@
 //! `records`: the list of the containers.
 
 ghost use Rattle.std.specs.Prelude.{◌≡◌, ◌^◌, ◌<◌, ◌≤◌, ◌++◌, IfOk, List, ℕ, MatchOption, codes, length, option_map};
+ghost use Rattle.acfg_base.specs.Found.{Finds};
 ghost use Rattle.acfg_model.specs.State.{IsDigest, most_containers};
-ghost use Rattle.acfg_store.specs.Found.{Finds};
 ghost use Rattle.acfg_store.specs.Records.{SpellsRecords, recorded_tail, records_bytes, records_header};
 ghost use Rattle.acfg_store.specs.Taken.{Takes};
 

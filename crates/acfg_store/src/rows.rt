@@ -4,9 +4,9 @@ ghost use Rattle.std.specs.Prelude.{◌≡◌, ◌++◌, ℕ, List, IfOk, OnOk, 
 ghost use Rattle.std.specs.List.{flat_map};
 ghost use Rattle.std.specs.Cmp.{IsTotalOrder};
 ghost use Rattle.std.specs.Ordering.{is_lt};
-ghost use Rattle.acfg_base.specs.Places.{AreInOrder};
-ghost use Rattle.acfg_store.specs.Found.{Finds};
-ghost use Rattle.acfg_store.specs.Taken.{Takes, IsPrefix, AreRows, SomeStepDown};
+ghost use Rattle.acfg_base.specs.Found.{Finds};
+ghost use Rattle.acfg_base.specs.Places.{AreInOrder, SomeStepDown};
+ghost use Rattle.acfg_store.specs.Taken.{Takes, IsPrefix, AreRows};
 
 use acfg_base::{InOrder, OutOfMemory, Row};
 use std::alloc::Global;

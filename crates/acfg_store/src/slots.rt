@@ -1,9 +1,9 @@
 //! The files of an override slot: whether they are there and lawful over the flags of the release.
 
 ghost use Rattle.std.specs.Prelude.{◌≡◌, ◌<◌, All, IfOk, IfSome, option_map};
+ghost use Rattle.acfg_base.specs.Found.{Finds};
 ghost use Rattle.acfg_store.specs.declared.names.OverrideFile.TheVariants as override;
 ghost use Rattle.acfg_store.specs.Damage.{IsFirst};
-ghost use Rattle.acfg_store.specs.Found.{Finds};
 ghost use Rattle.acfg_store.specs.Judged.{Judges};
 ghost use Rattle.acfg_store.specs.Over.{AreBytesIn, AreOverrides, HasInfos, HasLocalsOver, HasValues, IsSoundOver};
 ghost use Rattle.acfg_store.specs.Over.{read_over};

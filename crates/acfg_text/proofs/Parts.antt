@@ -19,10 +19,10 @@ use Rattle.acfg_text.specs.Trees.{item, tree}
 use Rattle.acfg_text.specs.Terminals.{Lexeme, lexeme, Terminal, terminal, symbol, class_of}
 use Rattle.acfg_text.specs.declared.token.TokenKind.{TokenKind}
 use Rattle.acfg_text.specs.declared.token.TokenKind.TheVariants as kinds
-use Rattle.acfg_text.specs.TextFaults.{is_quoted}
+use Rattle.acfg_text.specs.TextFaults.{is_quoted, BeginsUnquoted}
 use Rattle.acfg_text.specs.Escapes.{spelled}
 use Rattle.acfg_text.specs.Machine.{Head, Slot, single, among, Frame, frame, Mode, at_field, behind_field, behind_name, behind_colon, in_list, at_item, behind_item, in_text, State, st, fault, settle, close_list, opened, same, closed_by, refused, step_by, step, step_at, finish, carry, run, Waits, waits_name, waits_colon, waits_list, waits_item}
-use Rattle.acfg_text.specs.Reading.{terminal_at, ahead, seen_of, IsNext, NoField, NoQuote, ClosesList, ClosesNoList, NoClosing, IsNoOpening, SkipsEnd, Leads, FailsBy, ReadsFields, FailsFields, ReadsField, FailsField, ReadsHeld, FailsHeld, ReadsColon, FailsColon, ReadsList, FailsList, ReadsValue, FailsValue, ReadsElement, FailsElement, FailsScalar, ClosesBy, FailsToClose, list_state, GoesOn, FailsToGoOn, Joins}
+use Rattle.acfg_text.specs.Reading.{terminal_at, ahead, seen_of, IsNext, NoField, ClosesList, ClosesNoList, NoClosing, IsNoOpening, SkipsEnd, Leads, FailsBy, ReadsFields, FailsFields, ReadsField, FailsField, ReadsHeld, FailsHeld, ReadsColon, FailsColon, ReadsList, FailsList, ReadsValue, FailsValue, ReadsElement, FailsElement, FailsScalar, ClosesBy, FailsToClose, list_state, GoesOn, FailsToGoOn, Joins}
 use Rattle.acfg_text.proofs.Leading.{Unquoted, same_itself, open_step, settled_run}
 
 -- one step of the machine
@@ -63,10 +63,6 @@ pub skips_end : (tokens : List Lexeme) (at : ℕ) → ahead tokens at ≡ [] →
 unfolding run
 skips_end tokens at none end top [] = ap (λ l. run true end l (st behind_field top [])) none ∙ ap (λ l. run true end l (st at_field top [])) (sym none)
 skips_end tokens at none end top (f ∷ frames) = ap (λ l. run true end l (st behind_field top (f ∷ frames))) none ∙ ap (λ l. run true end l (st at_field top (f ∷ frames))) (sym none)
-
--- fields
-pub no_fields_yet : (tokens : List Lexeme) (end depth from : ℕ) (frames : List Frame) → Leads tokens end from (st at_field [] frames) from (st at_field [] frames)
-no_fields_yet tokens end depth from frames = refl
 
 pub field_read : (tokens : List Lexeme) (end depth at next behind : ℕ) (name : Seen) (listed : Bool) (values : List Value) (i : Item) → IsNext tokens at name → name.class ≡ c.Word → ReadsHeld tokens end depth (at + 1) listed values next → SkipsEnd tokens next behind
     → item name.text.now name.place listed values ≡ i → ReadsField tokens end depth at i behind
@@ -194,10 +190,10 @@ text_begins tokens end at t top frames is_next e (waits_colon {h = h}) = leads_s
 text_begins tokens end at t top frames is_next e (waits_list {h = h}) = leads_step tokens end at t (st (in_list h true) top frames) (st (in_text h (among true []) t.place (spelled t.text.now)) top frames) is_next (class_step (in_list h true) t c.Quoted top frames e)
 text_begins tokens end at t top frames is_next e (waits_item {h = h} {values = values}) = leads_step tokens end at t (st (at_item h true values) top frames) (st (in_text h (among true values) t.place (spelled t.text.now)) top frames) is_next (class_step (at_item h true values) t c.Quoted top frames e)
 
-settled_text : (tokens : List Lexeme) (end at : ℕ) (h : Head) (slot : Slot) (place : ℕ) (bytes : List ℕ) (top : List Item) (frames : List Frame) → NoQuote (ahead tokens at) → is_utf8 bytes ≡ true → Leads tokens end at (st (in_text h slot place bytes) top frames) at (settle h slot (v.Text place bytes) top frames)
+settled_text : (tokens : List Lexeme) (end at : ℕ) (h : Head) (slot : Slot) (place : ℕ) (bytes : List ℕ) (top : List Item) (frames : List Frame) → BeginsUnquoted (ahead tokens at) → is_utf8 bytes ≡ true → Leads tokens end at (st (in_text h slot place bytes) top frames) at (settle h slot (v.Text place bytes) top frames)
 settled_text tokens end at h slot place bytes top frames no_quote utf8 = settled_run true end h slot place bytes top frames (ahead tokens at) (unquoted (ahead tokens at) no_quote) (rw utf8 refl)
   where
-    unquoted : (ts : List Terminal) → NoQuote ts → Unquoted ts
+    unquoted : (ts : List Terminal) → BeginsUnquoted ts → Unquoted ts
     unquoted [] n = n
     unquoted (t ∷ ts) n = n
 
@@ -205,7 +201,7 @@ pub text_read : (tokens : List Lexeme) (end depth at next : ℕ) (t : Seen) (byt
 text_read tokens end depth at next t bytes is_next e joins utf8 mode h slot top frames waits d =
     text_begins tokens end at t top frames is_next e waits ∙ joins.leads h slot t.place top frames ∙ settled_text tokens end next h slot t.place bytes top frames joins.ends utf8
 
-bad_text : (end : ℕ) (h : Head) (slot : Slot) (place : ℕ) (bytes : List ℕ) (top : List Item) (frames : List Frame) (ts : List Terminal) → NoQuote ts → is_utf8 bytes ≡ false → run true end ts (st (in_text h slot place bytes) top frames) ≡ Err (fault place BadUtf8)
+bad_text : (end : ℕ) (h : Head) (slot : Slot) (place : ℕ) (bytes : List ℕ) (top : List Item) (frames : List Frame) (ts : List Terminal) → BeginsUnquoted ts → is_utf8 bytes ≡ false → run true end ts (st (in_text h slot place bytes) top frames) ≡ Err (fault place BadUtf8)
 unfolding run
 bad_text end h slot place bytes top frames [] n bad = rw bad refl
 bad_text end h slot place bytes top frames (t ∷ ts) n bad = rw (n, bad) refl
@@ -236,18 +232,6 @@ list_begins tokens end depth at colon closes h top frames d = go (ahead tokens a
 abbrev pub ListSoFar : List Lexeme → ℕ → ℕ → Bool → ℕ → ℕ → Bool → List Value → Type 0
 ListSoFar tokens end depth colon from at more values = (h : Head) (top : List Item) (frames : List Frame) → length frames ≡ depth → Leads tokens end from (st (in_list h colon) top frames) at (list_state more h colon values top frames)
 
-pub list_more : (tokens : List Lexeme) (end depth : ℕ) (colon : Bool) (from at next : ℕ) (more : Bool) (values longer : List Value) (value : Value) → ListSoFar tokens end depth colon from at true values → ReadsElement tokens end colon depth at value next → GoesOn tokens end next more
-    → longer ≡ values ++ value ∷ [] → ListSoFar tokens end depth colon from (next + 1) more longer
-list_more tokens end depth colon from at next more values longer value so_far element goes is h top frames d =
-    so_far h top frames d ∙ element h values top frames d ∙ goes h colon (values ++ value ∷ []) top frames ∙ ap (λ l. run true end (ahead tokens (next + 1)) (list_state more h colon l top frames)) (sym is)
-
-pub list_item_fails : (tokens : List Lexeme) (end depth : ℕ) (colon : Bool) (from at : ℕ) (values : List Value) (p : ℕ) (w : TextWhat) → ListSoFar tokens end depth colon from at true values → FailsElement tokens end colon depth at p w → FailsList tokens end colon depth from p w
-list_item_fails tokens end depth colon from at values p w so_far fails h top frames d = so_far h top frames d ∙ fails h values top frames d
-
-pub list_goes_fails : (tokens : List Lexeme) (end depth : ℕ) (colon : Bool) (from at next : ℕ) (values : List Value) (value : Value) (p : ℕ) (w : TextWhat) → ListSoFar tokens end depth colon from at true values → ReadsElement tokens end colon depth at value next → FailsToGoOn tokens end next p w
-    → FailsList tokens end colon depth from p w
-list_goes_fails tokens end depth colon from at next values value p w so_far element fails h top frames d = so_far h top frames d ∙ element h values top frames d ∙ fails h colon (values ++ value ∷ []) top frames
-
 pub goes_comma : (tokens : List Lexeme) (end at : ℕ) (t : Seen) → IsNext tokens at t → t.class ≡ c.Comma → GoesOn tokens end at true
 goes_comma tokens end at t is_next e h colon values top frames = leads_step tokens end at t (st (behind_item h colon values) top frames) (st (at_item h colon values) top frames) is_next (class_step (behind_item h colon values) t c.Comma top frames e)
 
@@ -271,9 +255,6 @@ element_value tokens end depth at next colon value reads h old top frames d = re
 
 pub element_message_fails : (tokens : List Lexeme) (end depth at p : ℕ) (w : TextWhat) (colon : Bool) → ((colon : Bool) → FailsValue tokens end colon depth at p w) → FailsElement tokens end colon depth at p w
 element_message_fails tokens end depth at p w colon fails h old top frames d = fails colon (at_item h colon old) h (among colon old) top frames waits_item d
-
-pub element_scalar_fails : (tokens : List Lexeme) (end depth at p : ℕ) (w : TextWhat) → FailsScalar tokens end depth at p w → FailsElement tokens end true depth at p w
-element_scalar_fails tokens end depth at p w fails h old top frames d = (fails h old top frames d).1
 
 uncoloned_none : (h : Head) (old : List Value) (class : Class) (t : Terminal) (top : List Item) (frames : List Frame) → ((b : Bracket) → class ≡ c.Open b → ⊥) → step_at true (at_item h false old) class t top frames ≡ Err (fault t.place Unexpected)
 uncoloned_none h old (c.Open b) t top frames x = absurd (x b refl)
@@ -355,7 +336,7 @@ pub value_read_text : (tokens : List Lexeme) (end depth at next : ℕ) (t : Seen
 value_read_text tokens end depth at next t bytes text is_next e joins utf8 is = subst (λ b. ReadsValue tokens end true depth at (v.Text t.place b) next) (sym is) (text_read tokens end depth at next t bytes is_next e joins utf8)
 
 -- a quoted token by itself
-pub joins_none : (tokens : List Lexeme) (end : ℕ) (old bytes : List ℕ) (at : ℕ) → bytes ≡ old → NoQuote (ahead tokens at) → Joins tokens end old at bytes at
+pub joins_none : (tokens : List Lexeme) (end : ℕ) (old bytes : List ℕ) (at : ℕ) → bytes ≡ old → BeginsUnquoted (ahead tokens at) → Joins tokens end old at bytes at
 joins_none tokens end old bytes at is ends = record {
   leads = λ h slot place top frames. ap (λ b. run true end (ahead tokens at) (st (in_text h slot place b) top frames)) (sym is);
   ends = ends;
@@ -409,8 +390,8 @@ module _ (tokens : List Lexeme) (at : ℕ) (inside : at < length tokens) where
   is_there : drop at tokens ≡ there ∷ drop (at + 1) tokens
   is_there = drop_more tokens at (lexeme kinds.Symbol 0 []) inside
 
-  pub no_quote : ((l : Lexeme) (rest : List Lexeme) → drop at tokens ≡ l ∷ rest → l.kind ≡ kinds.Quoted → ⊥) → NoQuote (ahead tokens at)
-  no_quote other = subst (λ ls. NoQuote (map terminal_at ls)) (sym is_there) (kind_unquoted there.kind there.text (other there (drop (at + 1) tokens) is_there))
+  pub no_quote : ((l : Lexeme) (rest : List Lexeme) → drop at tokens ≡ l ∷ rest → l.kind ≡ kinds.Quoted → ⊥) → BeginsUnquoted (ahead tokens at)
+  no_quote other = subst (λ ls. BeginsUnquoted (map terminal_at ls)) (sym is_there) (kind_unquoted there.kind there.text (other there (drop (at + 1) tokens) is_there))
 
   pub skips_other : ((l : Lexeme) (rest : List Lexeme) → drop at tokens ≡ l ∷ rest → l.kind ≡ kinds.Symbol → ⊥) → SkipsEnd tokens at at
   skips_other other =

@@ -71,9 +71,6 @@ behind_first : (b : ℕ) (bytes : List ℕ) → b < 128 → IsAscii bytes → Is
 behind_first b bytes small ascii zero = small
 behind_first b bytes small ascii (suc i) = ascii i
 
-abbrev PlainLexeme : Lexeme → Type 0
-PlainLexeme l = is_quoted (class_of l.kind l.text) ≡ false → IsAscii l.text
-
 token_plain : (kind : TokenKind) (bytes : List ℕ) → IsToken kind bytes → is_quoted (class_of kind bytes) ≡ false → IsAscii bytes
 token_plain kind [] is unq = absurd is
 token_plain Word (b ∷ bytes) (l, all) unq = behind_first b bytes (lead_small b Word l) (all_ascii is_word word_small bytes all)
@@ -81,11 +78,11 @@ token_plain Number (b ∷ bytes) (l, all) unq = behind_first b bytes (lead_small
 token_plain Symbol (b ∷ bytes) (l, none) unq = behind_first b bytes (lead_small b Symbol l) (subst IsAscii (sym none) (λ i. omega arith))
 token_plain Quoted (b ∷ bytes) (l, closes) unq = cc
 
-lexed_plain : {at : ℕ} {text : List ℕ} {found : List Lexeme} {end : ℕ} {rest : List ℕ} → Lexed at text found end rest → AllByRecursion PlainLexeme found
+lexed_plain : {at : ℕ} {text : List ℕ} {found : List Lexeme} {end : ℕ} {rest : List ℕ} → Lexed at text found end rest → AllByRecursion IsPlain found
 lexed_plain here = tt
 lexed_plain (blank leads lexed) = lexed_plain lexed
 lexed_plain (comment body text leads ends lexed) = lexed_plain lexed
-lexed_plain (token {kind = kind} bytes text is longest lexed) = (λ unq. token_plain kind bytes is unq, lexed_plain lexed)
+lexed_plain (token {kind = kind} bytes text is longest lexed) = (record { ascii = λ unquoted. token_plain kind bytes is unquoted }, lexed_plain lexed)
 
 pub are_plain : (text : List ℕ) (found : List Lexeme) → Lexes text found → length found < 2 ^ 64 → ArePlain found
 are_plain text found lexes few = (All-from_recursion IsPlain found (lexed_plain lexes), few)

@@ -1,6 +1,6 @@
 -- One byte of a quoted text at a time: what the scan and the value behind it are.
 use Rattle.std.proofs.Common.{◌≡◌, ℕ, zero, suc, ◌+◌, ◌-◌, ◌<◌, List, [], ◌∷◌, ◌++◌, length, take, drop, get_or, Some, None, refl, sym, ap, ◌∙◌, arith, add-one, drop-cons, length-drop}
-use Rattle.std.specs.Prelude.{◌≤◌, option_map}
+use Rattle.std.specs.Prelude.{◌≤◌}
 use Rattle.std.proofs.lemmas.List.{drop-drop}
 use Rattle.std.proofs.Math.ListN.{drop_of_length-le}
 use Rattle.std.proofs.Math.Seq.{take-length}
@@ -11,13 +11,6 @@ use Rattle.acfg_text.specs.Escapes.{Escaped, escape, within, value_behind}
 use Rattle.acfg_text.specs.Meanings.{bytes_of, meaning_of}
 use Rattle.acfg_text.specs.Scanning.{is_cut, unknown_escape, scan_by, scan}
 use Rattle.acfg_text.proofs.Quotes.{scan_skip, Fits, escape_fits}
-
--- what an escape of the program says of the definition
-pub some_escape : (text : List ℕ) (m : Meaning) → option_map meaning_of (Some m) ≡ escape text → escape text ≡ Some (meaning_of m)
-some_escape text m e = sym e
-
-pub none_escape : (text : List ℕ) → option_map meaning_of None ≡ escape text → escape text ≡ None
-none_escape text e = sym e
 
 pub escape_inside : (text : List ℕ) (m : Meaning) → escape text ≡ Some (meaning_of m) → m.length ≤ length text
 escape_inside text m e = let fits : Fits m.length text = escape_fits text m.length (bytes_of m.sign) e in fits.inside
@@ -56,18 +49,6 @@ module _ (quote at : ℕ) (text : List ℕ) (inside : at < length text) where
   value_here : value_behind quote 0 (drop at text) ≡ value_behind quote 0 (byte ∷ rest)
   value_here = ap (λ l. value_behind quote 0 l) here
 
-  pub value_close : within quote byte ≡ Close → value_behind quote 0 (drop at text) ≡ []
-  value_close e = value_here ∙ rw e refl
-
-  pub value_line : within quote byte ≡ Line → value_behind quote 0 (drop at text) ≡ []
-  value_line e = value_here ∙ rw e refl
-
-  pub value_plain : within quote byte ≡ Plain → value_behind quote 0 (drop at text) ≡ byte ∷ value_behind quote 0 (drop (at + 1) text)
-  value_plain e = value_here ∙ rw e refl
-
-  pub value_unknown : within quote byte ≡ Backslash → escape rest ≡ None → value_behind quote 0 (drop at text) ≡ []
-  value_unknown e is = value_here ∙ rw (e, is) refl
-
   pub value_skip : (k : ℕ) (l : List ℕ) → k ≤ length l → value_behind quote k l ≡ value_behind quote 0 (drop k l)
   value_skip zero l h = refl
   value_skip (suc k) [] h = absurd (omega arith)
@@ -83,9 +64,6 @@ module _ (quote at : ℕ) (text : List ℕ) (inside : at < length text) where
 pub scan_end : (quote at : ℕ) (text : List ℕ) → length text ≤ at → scan quote 0 at (drop at text) ≡ Open
 unfolding scan
 scan_end quote at text over = ap (λ l. scan quote 0 at l) (drop_of_length-le text over)
-
-pub value_end : (quote at : ℕ) (text : List ℕ) → length text ≤ at → value_behind quote 0 (drop at text) ≡ []
-value_end quote at text over = ap (λ l. value_behind quote 0 l) (drop_of_length-le text over)
 
 -- the slice of all bytes from a place on
 pub tail_is : (n : ℕ) (text : List ℕ) → take (length text - n) (drop n text) ≡ drop n text

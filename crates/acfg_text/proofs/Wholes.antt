@@ -14,7 +14,7 @@ use Rattle.acfg_text.specs.TextFaults.{IsFirst}
 use Rattle.acfg_text.specs.Lexes.{Lexes, LexFault}
 use Rattle.acfg_text.specs.Spells.{Spells, FirstFault}
 use Rattle.acfg_text.specs.Machine.{at_field, st, Fault, fault, step_at, run, begin}
-use Rattle.acfg_text.specs.Reading.{ahead, seen_of, IsNext, NoField, ReadsFields, FailsFields, ReadsAll, FailsAll}
+use Rattle.acfg_text.specs.Reading.{ahead, seen_of, IsNext, NoField, ReadsFields, ReadsAll, FailsAll}
 use Rattle.acfg_text.specs.Scanning.{lex}
 use Rattle.acfg_text.proofs.Lexing.{lex_lexes, lex_faults, lexes_lex, faults_lex, one_lexes}
 use Rattle.acfg_text.proofs.Slices.{lexes_rising}
@@ -36,9 +36,6 @@ pub all_stray : (tokens : List Lexeme) (end at : ℕ) (items : List Item) (t : S
 all_stray tokens end at items t fields next =
     let no_word : t.class ≡ c.Word → ⊥ = subst NoField next fields.ends in
     fields.leads [] refl ∙ fails_step tokens end at t (st at_field items []) t.place Unexpected next (stray_end t.class (seen_of t) items no_word)
-
-pub all_fails : (tokens : List Lexeme) (end p : ℕ) (w : TextWhat) → FailsFields tokens end 0 0 p w → FailsAll tokens end p w
-all_fails tokens end p w fails = fails [] refl
 
 -- what the tokens and their reading say of the text
 pub spells : (text : List ℕ) (found : List Lexeme) (items : List Item) (read : Tree) → Lexes text found → ReadsAll found (length text) items → read ≡ tree items (length text) → Spells text read

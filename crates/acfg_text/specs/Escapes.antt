@@ -1,6 +1,7 @@
 -- What quoted texts stand for: the Protocol Buffers text format, "String literals".
 use Rattle.std.specs.Prelude.{ℕ, zero, suc, ◌+◌, ◌-◌, ◌*◌, ◌==◌, if◌then◌else◌, ◌&&◌, ◌||◌, nat_lt, nat_le, Bool, List}
 use Rattle.std.specs.Prelude.{[], ◌∷◌, ◌++◌, length, fold, Option, Some, None, encode_utf8}
+use Rattle.acfg_base.specs.Bytes.{backslash, double_quote, line_feed, question_mark, single_quote}
 use Rattle.acfg_text.specs.declared.quoted.Within.{Within}
 use Rattle.acfg_text.specs.declared.quoted.Within.TheVariants.{Close, Line, Backslash, Plain}
 use Rattle.acfg_text.specs.declared.quoted.Escape.{Escape}
@@ -26,7 +27,8 @@ digits is_digit (suc n) (b ∷ text) = if is_digit b then b ∷ digits is_digit 
 abbrev pub number : ℕ → ℕ → List ℕ → ℕ
 number base start text = fold (λ n b. n * base + digit_value b) start text
 
--- the escapes, by the byte behind the backslash
+-- the escapes, by the byte behind the backslash: `a`, `b`, `t`, `n`, `v`, `f`, `r`, `?`, the backslash, the quotes, an
+-- octal digit, `x` or `X`, `u` and `U`
 unfoldable pub escape_by : ℕ → Escape
 escape_by b = if b == 97 then Byte 7
     else (if b == 98 then Byte 8
@@ -35,10 +37,10 @@ escape_by b = if b == 97 then Byte 7
     else (if b == 118 then Byte 11
     else (if b == 102 then Byte 12
     else (if b == 114 then Byte 13
-    else (if b == 63 then Byte 63
-    else (if b == 92 then Byte 92
-    else (if b == 39 then Byte 39
-    else (if b == 34 then Byte 34
+    else (if b == question_mark then Byte question_mark
+    else (if b == backslash then Byte backslash
+    else (if b == single_quote then Byte single_quote
+    else (if b == double_quote then Byte double_quote
     else (if is_octal b then Octal (b - 48)
     else (if b == 120 then Hexadecimal
     else (if b == 88 then Hexadecimal
@@ -82,7 +84,10 @@ escape (b ∷ text) = escape_as (escape_by b) b text
 
 -- what a byte is between quotes of this kind
 unfoldable pub within : ℕ → ℕ → Within
-within quote b = if b == quote then Close else (if b == 10 then Line else (if b == 92 then Backslash else Plain))
+within quote b = if b == quote then Close
+    else (if b == line_feed then Line
+    else (if b == backslash then Backslash
+    else Plain))
 
 -- What the text behind an opening quote stands for, up to the quote that closes it; so many bytes at its front are an
 -- escape's.

@@ -3,6 +3,8 @@
 use Rattle.std.specs.Prelude.{◌≡◌, ℕ, ◌+◌, ◌<◌, ◌==◌, true, false, drop, if◌then◌else◌, ◌&&◌, ◌||◌, nat_le, Bool, List}
 use Rattle.std.specs.Prelude.{[], ◌∷◌, ◌++◌, length, Some, None, codes, slice_range}
 use Rattle.std.specs.List.{list_any, list_all, AllByRecursion}
+use Rattle.acfg_base.specs.Bytes.{double_quote, line_feed, number_sign, single_quote, space}
+use Rattle.acfg_base.specs.Names.{dot, underscore}
 use Rattle.acfg_text.specs.declared.token.TokenKind.{TokenKind}
 use Rattle.acfg_text.specs.declared.token.TokenKind.TheVariants.{Word, Number, Quoted, Symbol}
 use Rattle.acfg_text.specs.declared.bytes.Lead.{Lead}
@@ -15,11 +17,11 @@ use Rattle.acfg_text.specs.Escapes.{within, escape}
 
 -- 0x20 and 0x09 to 0x0D
 unfoldable pub is_white : ℕ → Bool
-is_white b = (b == 32) || (nat_le 9 b && nat_le b 13)
+is_white b = (b == space) || (nat_le 9 b && nat_le b 13)
 
 -- `a` to `z`, `A` to `Z` and `_`
 unfoldable pub is_letter : ℕ → Bool
-is_letter b = (nat_le 97 b && nat_le b 122) || ((nat_le 65 b && nat_le b 90) || (b == 95))
+is_letter b = (nat_le 97 b && nat_le b 122) || ((nat_le 65 b && nat_le b 90) || (b == underscore))
 
 unfoldable pub is_digit : ℕ → Bool
 is_digit b = nat_le 48 b && nat_le b 57
@@ -29,22 +31,21 @@ unfoldable pub is_word : ℕ → Bool
 is_word b = is_letter b || is_digit b
 
 unfoldable pub is_number : ℕ → Bool
-is_number b = is_word b || (b == 46)
+is_number b = is_word b || (b == dot)
 
--- `"` and `'`
 unfoldable pub is_quote : ℕ → Bool
-is_quote b = (b == 34) || (b == 39)
+is_quote b = (b == double_quote) || (b == single_quote)
 
 unfoldable pub is_symbol : ℕ → Bool
 is_symbol b = list_any (λ s. s == b) (codes "{}<>[]:,;")
 
 unfoldable pub is_line_feed : ℕ → Bool
-is_line_feed b = b == 10
+is_line_feed b = b == line_feed
 
 -- what a byte begins; a comment begins with `#`
 unfoldable pub lead : ℕ → Lead
 lead b = if is_white b then White
-    else (if b == 35 then Comment
+    else (if b == number_sign then Comment
     else (if is_letter b then Token Word
     else (if is_digit b then Token Number
     else (if is_quote b then Token Quoted

@@ -2,6 +2,7 @@
 use Rattle.std.specs.Prelude.{ℕ, ◌+◌, ◌/◌, ◌%◌, ◌==◌, if◌then◌else◌, ◌&&◌, nat_le, Bool, true, false, List, [], ◌∷◌}
 use Rattle.std.specs.Prelude.{◌++◌, map, codes}
 use Rattle.std.specs.List.{flat_map}
+use Rattle.acfg_base.specs.Bytes.{backslash, digit_zero, double_quote, space}
 use Rattle.acfg_text.specs.declared.tree.Tree.{Tree, fold-Tree}
 use Rattle.acfg_text.specs.declared.tree.Item.{Item, fold-Item}
 use Rattle.acfg_text.specs.declared.tree.Value.{Value, fold-Value}
@@ -10,13 +11,13 @@ use Rattle.acfg_text.specs.declared.tree.Value.TheOpen as layer
 
 -- a byte of a text between double quotes
 unfoldable pub printed_byte : ℕ → List ℕ
-printed_byte b = if b == 92 then codes "\\\\"
-    else (if b == 34 then codes "\\\""
-    else (if nat_le 32 b && nat_le b 126 then b ∷ []
-    else (92 ∷ (48 + b / 64) ∷ (48 + b / 8 % 8) ∷ (48 + b % 8) ∷ [])))
+printed_byte b = if b == backslash then codes "\\\\"
+    else (if b == double_quote then codes "\\\""
+    else (if nat_le space b && nat_le b 126 then b ∷ []
+    else (backslash ∷ (digit_zero + b / 64) ∷ (digit_zero + b / 8 % 8) ∷ (digit_zero + b % 8) ∷ [])))
 
 abbrev pub quoted : List ℕ → List ℕ
-quoted bytes = 34 ∷ (flat_map printed_byte bytes ++ 34 ∷ [])
+quoted bytes = double_quote ∷ (flat_map printed_byte bytes ++ double_quote ∷ [])
 
 -- a value's text, and whether it is a message, which takes no colon
 pub record Shown : Type 0 where
@@ -28,11 +29,11 @@ scalar text = record { message = false; text = text }
 
 -- `{ FIELD FIELD }`
 abbrev pub braced : List (List ℕ) → List ℕ
-braced fields = codes "{ " ++ (flat_map (λ f. f ++ 32 ∷ []) fields ++ codes "}")
+braced fields = codes "{ " ++ (flat_map (λ f. f ++ space ∷ []) fields ++ codes "}")
 
 -- `: V`, or ` { FIELDS }`
 abbrev pub held : Shown → List ℕ
-held value = if value.message then 32 ∷ value.text else (codes ": " ++ value.text)
+held value = if value.message then space ∷ value.text else (codes ": " ++ value.text)
 
 -- pieces with a separator between each two
 abbrev pub separated : List ℕ → List (List ℕ) → List ℕ
@@ -67,4 +68,4 @@ printed_fields = fold-Tree Shown (List ℕ) (List (List ℕ)) value_step item_st
 
 -- the fields of a tree, joined by one space
 abbrev pub printed : Tree → List ℕ
-printed t = separated (32 ∷ []) (printed_fields t)
+printed t = separated (space ∷ []) (printed_fields t)

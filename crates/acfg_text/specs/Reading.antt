@@ -1,5 +1,6 @@
 -- Words of the reader's private contracts and of proofs alone: what its parts read, as runs of the machine.
-use Rattle.std.specs.Prelude.{◌≡◌, ℕ, ◌+◌, ◌<◌, ◌^◌, Bool, true, false, List, [], ◌∷◌, ◌++◌, length, map, drop, Ok, Err}
+use Rattle.std.specs.Prelude.{◌≡◌, ◌≢◌, ℕ, ◌+◌, ◌<◌, ◌^◌, Bool, true, false, List, [], ◌∷◌, ◌++◌, length, map, drop}
+use Rattle.std.specs.Prelude.{Ok, Err}
 use Rattle.std.specs.List.{All}
 use Rattle.std.specs.Str.{IsAscii}
 use Rattle.acfg_text.specs.declared.classes.Class.{Class}
@@ -12,7 +13,7 @@ use Rattle.acfg_text.specs.declared.tree.Value.{Value}
 use Rattle.acfg_text.specs.declared.fault.TextWhat.{TextWhat}
 use Rattle.acfg_text.specs.Trees.{item, tree}
 use Rattle.acfg_text.specs.Terminals.{Lexeme, Terminal, terminal, terminal_of}
-use Rattle.acfg_text.specs.TextFaults.{is_quoted}
+use Rattle.acfg_text.specs.TextFaults.{is_quoted, BeginsUnquoted}
 use Rattle.acfg_text.specs.Machine.{Head, Slot, among, Frame, Mode, at_field, behind_field, behind_name, behind_colon}
 use Rattle.acfg_text.specs.Machine.{in_list, at_item, behind_item, in_text, State, st, fault, settle, close_list, run}
 use Rattle.acfg_text.specs.Machine.{begin, Waits}
@@ -27,9 +28,9 @@ seen_of t = terminal t.class t.place t.text.now
 abbrev pub ahead : List Lexeme → ℕ → List Terminal
 ahead tokens at = map terminal_at (drop at tokens)
 
--- what a word or a number is made of
-abbrev pub IsPlain : Lexeme → Type 0
-IsPlain token = is_quoted (terminal_at token).class ≡ false → IsAscii token.text
+-- a token that isn't quoted is ASCII
+pub record IsPlain (token : Lexeme) : Type 0 where
+  pub ascii : is_quoted (terminal_at token).class ≡ false → IsAscii token.text
 
 -- tokens that can be read: each is plain, and their number is one of the machine's
 abbrev pub ArePlain : List Lexeme → Type 0
@@ -39,14 +40,10 @@ ArePlain tokens = All IsPlain tokens × (length tokens < 2 ^ 64)
 abbrev pub IsNext : List Lexeme → ℕ → Seen → Type 0
 IsNext tokens at t = ahead tokens at ≡ seen_of t ∷ ahead tokens (at + 1)
 
--- no field begins here, and no quoted token stands here
+-- no field begins here
 abbrev pub NoField : List Terminal → Type 0
 NoField [] = Unit {0}
-NoField (t ∷ ts) = t.class ≡ c.Word → ⊥
-
-abbrev pub NoQuote : List Terminal → Type 0
-NoQuote [] = Unit {0}
-NoQuote (t ∷ ts) = is_quoted t.class ≡ false
+NoField (t ∷ ts) = t.class ≢ c.Word
 
 abbrev pub IsQuoteAt : List Lexeme → ℕ → List ℕ → Type 0
 IsQuoteAt tokens at text = (p : ℕ) × (ahead tokens at ≡ terminal c.Quoted p text ∷ ahead tokens (at + 1))
@@ -57,7 +54,7 @@ ClosesList tokens at =
 
 abbrev pub NoClosing : List Terminal → Type 0
 NoClosing [] = Unit {0}
-NoClosing (t ∷ ts) = t.class ≡ c.CloseList → ⊥
+NoClosing (t ∷ ts) = t.class ≢ c.CloseList
 
 abbrev pub ClosesNoList : List Lexeme → ℕ → Type 0
 ClosesNoList tokens at = NoClosing (ahead tokens at)
@@ -186,7 +183,7 @@ module _ (tokens : List Lexeme) (end : ℕ) where
   pub record Joins (old : List ℕ) (from : ℕ) (bytes : List ℕ) (at : ℕ) : Type 0 where
     pub leads : (h : Head) (slot : Slot) (place : ℕ) (top : List Item) (frames : List Frame)
         → Leads from (st (in_text h slot place old) top frames) at (st (in_text h slot place bytes) top frames)
-    pub ends : NoQuote (ahead tokens at)
+    pub ends : BeginsUnquoted (ahead tokens at)
 
   -- all tokens, from the first on
   abbrev pub ReadsAll : List Item → Type 0

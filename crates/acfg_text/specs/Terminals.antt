@@ -1,5 +1,7 @@
 -- Tokens, and the terminals of the grammar that they are.
 use Rattle.std.specs.Prelude.{ℕ, ◌==◌, if◌then◌else◌, List, slice_index}
+use Rattle.acfg_base.specs.Bytes.{close_angle, close_brace, close_bracket, colon, comma}
+use Rattle.acfg_base.specs.Bytes.{open_angle, open_brace, open_bracket}
 use Rattle.acfg_text.specs.declared.token.TokenKind.{TokenKind}
 use Rattle.acfg_text.specs.declared.token.TokenKind.TheVariants as kinds
 use Rattle.acfg_text.specs.declared.token.Token.{Token}
@@ -22,14 +24,14 @@ lexeme_of token = lexeme token.kind token.place token.text.now
 
 -- the terminal that a symbol's byte is; the last of the nine is `;`
 unfoldable pub symbol : ℕ → Class
-symbol b = if b == 58 then classes.Colon
-    else (if b == 44 then classes.Comma
-    else (if b == 123 then classes.Open Curly
-    else (if b == 125 then classes.Close Curly
-    else (if b == 60 then classes.Open Angle
-    else (if b == 62 then classes.Close Angle
-    else (if b == 91 then classes.OpenList
-    else (if b == 93 then classes.CloseList
+symbol b = if b == colon then classes.Colon
+    else (if b == comma then classes.Comma
+    else (if b == open_brace then classes.Open Curly
+    else (if b == close_brace then classes.Close Curly
+    else (if b == open_angle then classes.Open Angle
+    else (if b == close_angle then classes.Close Angle
+    else (if b == open_bracket then classes.OpenList
+    else (if b == close_bracket then classes.CloseList
     else classes.Semicolon)))))))
 
 abbrev pub class_of : TokenKind → List ℕ → Class

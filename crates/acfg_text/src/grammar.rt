@@ -5,12 +5,12 @@ ghost use Rattle.std.specs.Prelude.{MatchOption, Bool, ℕ};
 ghost use Rattle.std.specs.Bool.{OnTrue, OnFalse};
 ghost use Rattle.std.specs.Str.{IsAscii};
 ghost use Rattle.acfg_text.specs.Escapes.{spelled};
-ghost use Rattle.acfg_text.specs.TextFaults.{is_quoted, IfAt};
+ghost use Rattle.acfg_text.specs.TextFaults.{is_quoted, IfAt, BeginsUnquoted};
 ghost use Rattle.acfg_text.specs.Reading.{ahead, ArePlain, seen_of, NoField, IsNext, ReadsFields, FailsFields};
 ghost use Rattle.acfg_text.specs.Reading.{ReadsField, FailsField, ReadsHeld, FailsHeld, ReadsColon, FailsColon};
 ghost use Rattle.acfg_text.specs.Reading.{ReadsList, FailsList, ReadsValue, FailsValue, ReadsElement, FailsElement};
 ghost use Rattle.acfg_text.specs.Reading.{ClosesBy, FailsToClose, GoesOn, FailsToGoOn, ClosesList, ClosesNoList};
-ghost use Rattle.acfg_text.specs.Reading.{IsNoOpening, FailsScalar, Joins, NoQuote, IsQuoteAt};
+ghost use Rattle.acfg_text.specs.Reading.{IsNoOpening, FailsScalar, Joins, IsQuoteAt};
 
 use crate::classes::{Bracket, Class};
 use crate::fault::{TextFault, TextWhat};
@@ -365,7 +365,7 @@ fn read_text(
 fn lone_text<'a>(tokens: &Tokens<'_>, first: &'a [u8], at: usize) -> Option<&'a [u8]>
     requires { ArePlain tokens.now }
     ensures value { IfSome result (λ value. value.now ≡ spelled first.now) }
-    ensures ends { IfSome result (λ value. NoQuote (ahead tokens.now at)) }
+    ensures ends { IfSome result (λ value. BeginsUnquoted (ahead tokens.now at)) }
 {
     match quoted_text(tokens, at) {
         Some(_) => None,
@@ -386,7 +386,7 @@ fn read_lone(
     requires within { at < length tokens.now }
     requires next { IsNext tokens.now at token }
     requires value { text.now ≡ spelled token.text.now }
-    requires ends { NoQuote (ahead tokens.now (at + 1)) }
+    requires ends { BeginsUnquoted (ahead tokens.now (at + 1)) }
     requires quoted { token.class ≡ Class.Quoted }
     ensures ok { IfOk result (λ r. (depth : ℕ) → ReadsValue tokens.now end true depth at r.0 r.1) }
     ensures within { IfOk result (λ r. (at < r.1) × (r.1 ≤ length tokens.now)) }
@@ -449,7 +449,8 @@ fn join(
 // The text of a quoted token that stands here.
 fn quoted_text<'a>(tokens: &Tokens<'a>, at: usize) -> Option<&'a [u8]>
     requires { ArePlain tokens.now }
-    ensures ahead { MatchOption result (NoQuote (ahead tokens.now at)) (λ text. IsQuoteAt tokens.now at text.now) }
+    ensures ahead { MatchOption result (BeginsUnquoted (ahead tokens.now at))
+        (λ text. IsQuoteAt tokens.now at text.now) }
     ensures within { IfSome result (λ text. at < length tokens.now) }
 {
     if is_of_another_kind(tokens, at, TokenKind::Quoted) {

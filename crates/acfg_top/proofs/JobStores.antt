@@ -25,15 +25,6 @@ missing_behind : (name bytes : List ℕ) (rest : Result (List Given) (List ℕ))
 missing_behind name bytes (Ok inputs) = refl
 missing_behind name bytes (Err missing) = refl
 
--- a file that is there is none that is missed
-pub missing_next : (files : Files) (name bytes : List ℕ) (names : List (List ℕ)) → files name ≡ Some bytes → missing_of (inputs_in files (name ∷ names)) ≡ missing_of (inputs_in files names)
-missing_next files name bytes names there =
-    ap (λ (found : Option (List ℕ)). missing_of (with_found name found (inputs_in files names))) there ∙ missing_behind name bytes (inputs_in files names)
-
--- one that isn't there is the first that is missed
-pub missing_here : (files : Files) (name : List ℕ) (names : List (List ℕ)) → files name ≡ None → missing_of (inputs_in files (name ∷ names)) ≡ Some name
-missing_here files name names absent = ap (λ (found : Option (List ℕ)). missing_of (with_found name found (inputs_in files names))) absent
-
 -- the first of files that is missed is the first of all, and where none is missed those behind decide
 in_front : (files : Files) (name : List ℕ) (found : Option (List ℕ)) (rest all : Result (List Given) (List ℕ)) (missing : List ℕ) → (missing_of rest ≡ Some missing → missing_of all ≡ Some missing)
     → missing_of (with_found name found rest) ≡ Some missing → missing_of (with_found name found all) ≡ Some missing
@@ -96,9 +87,6 @@ pub record Goes (files : Files) (all : List Job) (made : List Stored) (left : Li
   pub stored : (more : List Stored) → AllZip (IsStored files) left more → AllZip (IsStored files) all (made ++ more)
   pub refused : (file what : List ℕ) → FirstJobRefused files left file what → FirstJobRefused files all file what
 
-goes_first : (files : Files) (all : List Job) → Goes files all [] all
-goes_first files all = record { stored = λ more here. here; refused = λ file what here. here }
-
 goes_more : (files : Files) (all : List Job) (made : List Stored) (job : Job) (left : List Job) (stored : Stored) → IsStored files job stored → Goes files all made (job ∷ left) → Goes files all (made ++ stored ∷ []) left
 goes_more files all made job left stored is goes = record {
   stored = λ more rest. subst (AllZip (IsStored files) all) (sym (append_assoc made (stored ∷ []) more)) (goes.stored (stored ∷ more) (is, rest));
@@ -112,9 +100,6 @@ pub record Stores (files : Files) (all left : List Job) (output : Output) : Type
   pub made : List Stored
   pub is : IsOfStored made output
   pub goes : Goes files all made left
-
-pub stores_first : (files : Files) (all : List Job) (output : Output) → IsOfStored [] output → Stores files all all output
-stores_first files all output is = record { made = []; is = is; goes = goes_first files all }
 
 -- what is told is done, or it is a refusal
 told_done : (outcome : Outcome) (next : Output) → IsOutputOf outcome next → next.told.ending ≡ end.Done → (stored : Stored) × (outcome ≡ Done stored.text stored.writes)

@@ -11,13 +11,13 @@ use Rattle.std.proofs.lemmas.List.Splits.{join_with_byte-slice_split, length-sli
 use Rattle.std.proofs.lemmas.Bool.{eqb-false, ne_eqb}
 use lib.Dec.{eqb}
 use Rattle.acfg_base.specs.Bytes.{space}
+use Rattle.acfg_base.specs.Found.{Finds}
 use Rattle.acfg_base.specs.Names.{IsContainer}
-use Rattle.acfg_base.specs.Paths.{IsPath}
-use Rattle.acfg_daemon.specs.Requests.{Finds}
+use Rattle.acfg_base.specs.Paths.{IsPath, IsPathInLine}
 use Rattle.acfg_daemon.proofs.Words.{Finds-weaker, IsWord, joined_text, names_word, split_join}
 use Rattle.std.proofs.lemmas.List.{get_or_default}
 use Rattle.acfg_top.specs.JobBodies.{AreJobWords, job_of, jobs_of}
-use Rattle.acfg_top.specs.JobList.{IsJob, IsLawfulJob, IsPathInLine, Job, job_words}
+use Rattle.acfg_top.specs.JobList.{IsJob, IsLawfulJob, Job, job_words}
 use Rattle.acfg_top.specs.declared.jobs.Job.{Job as Read}
 
 -- the words of a text

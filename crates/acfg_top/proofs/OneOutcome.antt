@@ -1,9 +1,7 @@
 -- Words and files have one outcome.
-use Rattle.std.proofs.Common.{◌≡◌, ℕ, List, [], Bool, true, false, refl, sym, ◌∙◌, ap, subst, inl, inr, ◌⊎◌}
+use Rattle.std.proofs.Common.{◌≡◌, ℕ, List, [], sym, ◌∙◌, ap, subst, inl, inr}
 use Rattle.std.specs.Prelude.{Option, None, Some}
 use Rattle.std.specs.List.{flat_map}
-use Rattle.std.specs.Bool.{Decides}
-use Rattle.std.proofs.lemmas.Bool.Decides.{not_from_Decides}
 use Rattle.std.specs.FinMap.{empty}
 use Rattle.acfg_daemon.specs.Lines.{lines}
 use Rattle.acfg_daemon.proofs.OneTranscript.{one_transcript}
@@ -16,9 +14,10 @@ use Rattle.acfg_decls.specs.Compile.{CompilesOwn, FailsOwn}
 use Rattle.acfg_decls.specs.Reading.{Declares}
 use Rattle.acfg_decls.proofs.OneAnswer.{own_apart, own_fails_unique, own_unique}
 use Rattle.acfg_decls.proofs.Unique.{declares_unique, passes_apart, refuses_unique}
+use Rattle.acfg_dump.specs.Lines.{flag_line}
 use Rattle.acfg_top.specs.Words.{Command, Flags, Rehearse, Replay, Query, Dump, CreateCache, CreateStorage, CreateAll, Asks}
 use Rattle.acfg_top.specs.Commands.{CommandGives, Gives}
-use Rattle.acfg_top.specs.Flags.{FileFails, FlagsGives, fault_words, flag_line}
+use Rattle.acfg_top.specs.Flags.{FileFails, FlagsGives, fault_words}
 use Rattle.acfg_top.specs.Outcome.{Outcome, Refused, Done}
 use Rattle.acfg_top.specs.Rehearsal.{RehearseGives}
 use Rattle.acfg_top.proofs.Asking.{asks_unique}
@@ -27,11 +26,6 @@ use Rattle.acfg_top.proofs.Dumping.{dump_gives_unique}
 use Rattle.acfg_top.proofs.JobOutcome.{create_all_unique}
 use Rattle.acfg_top.proofs.Replaying.{replay_gives_unique}
 use Rattle.acfg_top.proofs.Storing.{create_storage_unique}
-
--- a fact that a test decides holds or fails
-holds_or_fails : {P : Type 0} (b : Bool) → Decides b P → P ⊎ ¬ P
-holds_or_fails true decides = inl (decides.0 refl)
-holds_or_fails false decides = inr (not_from_Decides false decides refl)
 
 -- a file that is read and compiled is refused nowhere
 never_fails : (name bytes : List ℕ) (file : DeclarationsFile) (flags : List Flag) (place : ℕ) (fault : DeclWhat) → Declares name bytes file → CompilesOwn file flags → FileFails name bytes place fault → ⊥

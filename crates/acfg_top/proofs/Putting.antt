@@ -108,10 +108,6 @@ module _ {P : Type 0} (panel : Ghosts P) (output : Output) (ends : output.told.e
   }
 
 module _ {P : Type 0} (panel : Ghosts P) (changed : List ℕ → Type 0) where
-  -- words alone
-  pub says_writes : {before after : P} {fails : Type 0} → OnlySays panel before after fails → OnlyWrites panel changed before after fails
-  says_writes says = record { others = λ name apart. ap (λ (f : Files). f name) says.files; words = says.words; count = says.count; failed = says.failed }
-
   -- files alone
   pub changes_writes : {before after : P} {fails failed : Type 0} → (failed → fails) → OnlyChanges panel changed before after fails → OnlyWrites panel changed before after failed
   changes_writes {before} fail changes = record {

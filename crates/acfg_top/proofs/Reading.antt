@@ -1,14 +1,12 @@
 -- Inputs that are looked at one after another: what a loop over them keeps.
-use Rattle.std.proofs.Common.{◌≡◌, ℕ, ◌+◌, ◌<◌, ◌≤◌, Bool, true, false, cond, List, [], ◌∷◌, ◌++◌, length, map, filter, drop, get_or, refl, sym, ◌∙◌, ap, subst, inl, inr, append_assoc, Global, string_bytes}
+use Rattle.std.proofs.Common.{◌≡◌, ℕ, ◌+◌, ◌<◌, ◌≤◌, Bool, true, false, cond, List, [], ◌∷◌, ◌++◌, length, filter, drop, get_or, refl, sym, ◌∙◌, ap, subst, inl, inr, append_assoc}
 use Rattle.std.proofs.lemmas.List.{append-nil, drop_all, drop_more}
-use Rattle.std.specs.Prelude.{IsTrue, Result, String}
-use Rattle.acfg_device.specs.Panel.{Files}
-use Rattle.acfg_top.specs.Bodies.{IfRefused, IsAdded, input_of, inputs_of, seen_then}
+use Rattle.std.specs.Prelude.{IsTrue}
+use Rattle.acfg_top.specs.Bodies.{IfRefused, IsAdded, input_of, inputs_of}
 use Rattle.acfg_top.specs.declared.inputs.Input.{Input}
-use Rattle.acfg_top.specs.declared.inputs.Seen.{Seen}
 use Rattle.acfg_top.specs.declared.told.Halt.{Halt}
 use Rattle.acfg_top.specs.declared.told.Halt.TheVariants as halt
-use Rattle.acfg_top.specs.Inputs.{Given, AreAccepted, FirstRefused, inputs_in, with_found}
+use Rattle.acfg_top.specs.Inputs.{Given, AreAccepted, FirstRefused}
 
 -- a refusal for one reason is one for another
 pub refused_weaker : (one other : List ℕ → List ℕ → Type 0) (h : Halt) → ((file what : List ℕ) → one file what → other file what) → IfRefused one h → IfRefused other h
@@ -68,15 +66,6 @@ at_input inputs i input is low = ap inputs_of (drop_more inputs i input low) ∙
 -- none is left at the end
 pub none_left : (inputs : List Input) (i : ℕ) → length inputs ≤ i → inputs_of (drop i inputs) ≡ []
 none_left inputs i high = ap inputs_of (drop_all i inputs high)
-
--- files that are read one after another
-pub read_on : (old new : Seen) (names : List (String Global)) (files : Files) (i : ℕ) (d : String Global) → i < length names
-    → ((rest : Result (List Given) (List ℕ)) → seen_then new rest ≡ seen_then old (with_found (string_bytes (get_or names i d)) (files (string_bytes (get_or names i d))) rest))
-    → seen_then old (inputs_in files (map string_bytes (drop i names))) ≡ inputs_in files (map string_bytes names)
-    → seen_then new (inputs_in files (map string_bytes (drop (i + 1) names))) ≡ inputs_in files (map string_bytes names)
-read_on old new names files i d low step before =
-    step (inputs_in files (map string_bytes (drop (i + 1) names)))
-    ∙ ap (λ left. seen_then old (inputs_in files (map string_bytes left))) (sym (drop_more names i d low)) ∙ before
 
 module _ {X : Type 0} (accepts : Given → X → Type 0) (refuses : Given → List ℕ → Type 0) (all : List Given) where
   -- the same at a place of the inputs

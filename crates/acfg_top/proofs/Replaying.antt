@@ -21,7 +21,7 @@ use Rattle.acfg_store.specs.Stands.{Stands}
 use Rattle.acfg_store.proofs.Damaging.{one_damaged, stand_undamaged}
 use Rattle.acfg_store.proofs.OneState.{one_state}
 use Rattle.acfg_top.specs.Bodies.{Comes, IsOf}
-use Rattle.acfg_top.specs.Outcome.{Outcome, Refused, Damaged, Replayed, IsBroken, OnlyWrites, said_for}
+use Rattle.acfg_top.specs.Outcome.{Outcome, Refused, Damaged, Replayed, IsBroken, said_for}
 use Rattle.acfg_top.specs.Replay.{LeavesOfCommand, ReplayGives}
 use Rattle.acfg_top.specs.declared.ending.Ending.{Ending}
 use Rattle.acfg_top.specs.declared.ending.Ending.TheVariants as end
@@ -111,11 +111,6 @@ module _ {P : Type 0} (panel : Ghosts P) (script dir bytes file : List ℕ) {bef
         spared = tt;
       })
 
--- lines answered are words said and files written
-pub answers_write : {P : Type 0} {panel : Ghosts P} (changed : List ℕ → Type 0) {before after : P} {fails failed : Type 0} → (failed → fails) → OnlyAnswers panel changed before after fails
-    → OnlyWrites panel changed before after failed
-answers_write changed fail answers = record { others = answers.others; words = answers.words; count = answers.count; failed = λ f. answers.failed (fail f) }
-
 -- ---- cuts
 
 module _ (script dir : List ℕ) where
@@ -149,15 +144,6 @@ module _ (script dir : List ℕ) where
       let given = subst (λ found. ReplayGives script dir first found outcome) (sym there) (inl (file, damaged, refl)) in
       let part = refusal_leaves first now spoken here text (said_for outcome) same is spelled files said left in
       inr (inl (record { outcome = outcome; given = given; refuses = λ turns. turns; same = part.0; words = part.1 }))
-
-  -- what a cut leaves behind a look
-  pub leaves_earlier : {P : Type 0} (panel : Ghosts P) {before mid : P} {looks : Type 0} → OnlyReads panel before mid looks → (after : Account)
-      → LeavesSince (panel.account mid) after (LeavesOfCommand script dir (panel.files mid) (panel.said mid))
-      → LeavesSince (panel.account before) after (LeavesOfCommand script dir (panel.files before) (panel.said before))
-  leaves_earlier panel {before} {mid} reads after cut =
-      subst (λ (first : Files). LeavesSince (panel.account before) after (LeavesOfCommand script dir first (panel.said before))) reads.files
-      (subst (λ (spoken : List ℕ). LeavesSince (panel.account before) after (LeavesOfCommand script dir (panel.files mid) spoken)) reads.said
-      (subst (λ (start : Account). LeavesSince start after (LeavesOfCommand script dir (panel.files mid) (panel.said mid))) reads.account cut))
 
   -- nothing was done behind a look
   pub rests : {P : Type 0} (panel : Ghosts P) {before mid : P} {looks : Type 0} → OnlyReads panel before mid looks → panel.files before ≡ told (panel.account before).now → panel.said before ≡ (panel.account before).now.said

@@ -8,11 +8,12 @@ use Rattle.acfg_decls.specs.declared.declared.Placed.{Placed}
 use Rattle.acfg_decls.specs.declared.faults.DeclWhat.{DeclWhat}
 use Rattle.acfg_decls.specs.declared.faults.DeclWhat.TheVariants.{MissingField}
 use Rattle.acfg_decls.specs.declared.messages.Message.TheVariants.{FlagDeclarations}
-use Rattle.acfg_decls.specs.Compile.{FailsOwn, FailsToCompile, container_read}
+use Rattle.acfg_decls.specs.Compile.{FailsOwn, FailsToCompile, container_read, all_tests}
 use Rattle.acfg_decls.specs.Reading.{Declares, declarations_in}
 use Rattle.acfg_decls.proofs.Exists.{compiles_or_fails}
 use Rattle.acfg_decls.proofs.Unique.{read_or_refused}
 use Rattle.acfg_device.specs.Panel.{Files}
+use Rattle.acfg_dump.specs.Lines.{flag_line}
 use Rattle.acfg_daemon.specs.Lines.{lines}
 use Rattle.acfg_daemon.proofs.OneLine.{transcript_runs}
 use Rattle.acfg_daemon.proofs.SomeTranscript.{some_run, some_transcript, Some_}
@@ -23,7 +24,7 @@ use Rattle.acfg_store.specs.Loading.{image_load}
 use Rattle.acfg_store.specs.Stands.{Stands}
 use Rattle.acfg_store.proofs.Faultless.{some_damage}
 use Rattle.acfg_top.specs.Commands.{CommandGives, Gives}
-use Rattle.acfg_top.specs.Flags.{FlagsGives, fault_words, flag_line}
+use Rattle.acfg_top.specs.Flags.{FlagsGives, fault_words}
 use Rattle.acfg_top.specs.Outcome.{Outcome, Usage, Refused, Damaged, Done, Replayed}
 use Rattle.acfg_top.specs.Rehearsal.{RehearseGives}
 use Rattle.acfg_top.specs.Replay.{ReplayGives}
@@ -42,7 +43,7 @@ fails name bytes file declares number place fault own = (Refused name (fault_wor
 abbrev OwnFails : DeclarationsFile → Option Placed → ℕ → ℕ → DeclWhat → Type 0
 OwnFails file named number place fault =
     MatchOption named ((number ≡ 0) × (place ≡ file.end) × (fault ≡ MissingField))
-    (λ container. FailsToCompile file.package.text (container_read container.text) (file ∷ []) [] number place fault)
+    (λ container. FailsToCompile (all_tests file.package.text (container_read container.text) (file ∷ []) []) number place fault)
 
 -- declarations that were read compile by themselves, or have a first fault
 some_own : (name bytes : List ℕ) (file : DeclarationsFile) → Declares name bytes file → Some_ ((outcome : Outcome) × FlagsGives name (Some bytes) outcome)

@@ -8,7 +8,7 @@ use Rattle.acfg_decls.specs.declared.declared.ValuesFile.{ValuesFile}
 use Rattle.acfg_decls.specs.declared.faults.DeclWhat.{DeclWhat}
 use Rattle.acfg_decls.specs.declared.flags.Flag.{Flag}
 use Rattle.acfg_decls.specs.declared.messages.Message.TheVariants.{FlagDeclarations, FlagValues}
-use Rattle.acfg_decls.specs.Compile.{Compiles, FailsToCompile, container_read}
+use Rattle.acfg_decls.specs.Compile.{Compiles, FailsToCompile, container_read, all_tests}
 use Rattle.acfg_decls.specs.Reading.{Declares, Refuses, Sets}
 use Rattle.acfg_cache.specs.Writing.{cache}
 use Rattle.acfg_device.specs.Panel.{Files}
@@ -50,7 +50,7 @@ pub record IsBadSource («package» container : List ℕ) (declarations : List D
   pub number : ℕ
   pub place : ℕ
   pub fault : DeclWhat
-  pub first : FailsToCompile «package» container declarations values number place fault
+  pub first : FailsToCompile (all_tests «package» container declarations values) number place fault
   pub is_file : file ≡ slice_index_or (sources declarations values) number []
   pub is_fault : what ≡ fault_words place fault
 

@@ -1,8 +1,7 @@
 -- The outcome of `flags FILE`: the flags of one declarations file, compiled by itself.
-use Rattle.std.specs.Prelude.{◌≡◌, ℕ, ◌⊎◌, List, [], ◌∷◌, ◌++◌, Bool, Option, None, Some, if◌then◌else◌, codes}
+use Rattle.std.specs.Prelude.{◌≡◌, ℕ, ◌⊎◌, List, [], ◌++◌, Option, None, Some, codes}
 use Rattle.std.specs.List.{flat_map}
 use Rattle.std.specs.Fmt.{decimal}
-use Rattle.acfg_base.specs.Bytes.{line_feed}
 use Rattle.acfg_text.specs.declared.fault.TextWhat.{TextWhat}
 use Rattle.acfg_text.specs.declared.fault.TextWhat.TheVariants as text
 use Rattle.acfg_decls.specs.declared.flags.Flag.{Flag}
@@ -12,6 +11,7 @@ use Rattle.acfg_decls.specs.declared.faults.DeclWhat.TheVariants as what
 use Rattle.acfg_decls.specs.declared.messages.Message.TheVariants.{FlagDeclarations}
 use Rattle.acfg_decls.specs.Compile.{CompilesOwn, FailsOwn}
 use Rattle.acfg_decls.specs.Reading.{Declares, Refuses}
+use Rattle.acfg_dump.specs.Lines.{flag_line}
 use Rattle.acfg_top.specs.Outcome.{Outcome, Refused, Done}
 
 -- a fault of a text, as it is printed
@@ -42,19 +42,6 @@ what_words what.FixedFlag = codes "fixed-flag"
 -- a fault and its place
 abbrev pub fault_words : ℕ → DeclWhat → List ℕ
 fault_words place fault = what_words fault ++ codes " at " ++ decimal place
-
--- a flag's permission and its state, by their names
-abbrev pub permission_name : Bool → List ℕ
-permission_name writable = if writable then codes "READ_WRITE" else codes "READ_ONLY"
-
-abbrev pub state_name : Bool → List ℕ
-state_name enabled = if enabled then codes "ENABLED" else codes "DISABLED"
-
--- `PACKAGE.NAME [CONTAINER]: PERMISSION + STATE`
-abbrev pub flag_line : Flag → List ℕ
-flag_line flag =
-    flag.package ++ codes "." ++ flag.name ++ codes " [" ++ flag.container ++ codes "]: "
-    ++ permission_name flag.writable ++ codes " + " ++ state_name flag.enabled ++ line_feed ∷ []
 
 -- the first fault of a file: of reading it, or of compiling it by itself
 abbrev pub FileFails : List ℕ → List ℕ → ℕ → DeclWhat → Type 0

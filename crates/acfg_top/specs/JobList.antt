@@ -4,7 +4,7 @@ use Rattle.std.specs.Prelude.{length, map}
 use Rattle.std.specs.List.{AllZip, join_with_byte}
 use Rattle.acfg_base.specs.Bytes.{space}
 use Rattle.acfg_base.specs.Names.{IsContainer}
-use Rattle.acfg_base.specs.Paths.{IsPath}
+use Rattle.acfg_base.specs.Paths.{IsPathInLine}
 
 -- what a line asks for: the storage files of a container, in a directory, made of caches
 pub record Job : Type 0 where
@@ -15,11 +15,6 @@ pub record Job : Type 0 where
 -- the most jobs of a list
 abbrev pub most_jobs : ℕ
 most_jobs = 256
-
--- a path as a word of a line: it holds no space
-pub record IsPathInLine (text : List ℕ) : Type 0 where
-  pub path : IsPath text
-  pub whole : ¬ Contains text space
 
 -- a container, a path and one or more paths
 pub record IsLawfulJob (job : Job) : Type 0 where

@@ -1,9 +1,10 @@
 -- The outcome of `query DIR P F`: what the four files of a set in DIR list of a flag.
 use Rattle.std.specs.Prelude.{◌≡◌, ℕ, List, [], ◌∷◌, ◌++◌, Bool, Option, None, Some, Result, Ok, Err}
-use Rattle.std.specs.Prelude.{if◌then◌else◌, codes}
+use Rattle.std.specs.Prelude.{codes}
 use Rattle.std.specs.Fmt.{decimal}
 use Rattle.std.specs.Option.{option_map}
 use Rattle.acfg_base.specs.Bytes.{line_feed}
+use Rattle.acfg_base.specs.Words.{bool_word}
 use Rattle.acfg_base.specs.declared.releases.Kind.{Kind}
 use Rattle.acfg_base.specs.declared.releases.Kind.TheVariants.{ReadWrite, ReadOnly, Fixed}
 use Rattle.acfg_device.specs.Panel.{Files}
@@ -54,6 +55,7 @@ set_in dir files = all_four (files (file_in dir PackageMap)) (files (file_in dir
 
 -- ---- faults, as they are printed
 
+-- A bad kind is never told: it stands in a node, and then the node is.
 abbrev pub view_words : ViewFault → List ℕ
 view_words view.Short = codes "short"
 view_words (view.BadVersion version) = codes "bad-version " ++ decimal version
@@ -101,13 +103,10 @@ kind_name ReadWrite = codes "read-write"
 kind_name ReadOnly = codes "read-only"
 kind_name Fixed = codes "fixed"
 
-abbrev pub value_name : Bool → List ℕ
-value_name value = if value then codes "true" else codes "false"
-
 -- `P.F: KIND V`
 abbrev pub found_line : List ℕ → List ℕ → Kind → Bool → List ℕ
 found_line name flag kind value =
-    name ++ codes "." ++ flag ++ codes ": " ++ kind_name kind ++ codes " " ++ value_name value ++ line_feed ∷ []
+    name ++ codes "." ++ flag ++ codes ": " ++ kind_name kind ++ codes " " ++ bool_word value ++ line_feed ∷ []
 
 -- the line for a flag that is there, or `none`
 abbrev pub answer_line : List ℕ → List ℕ → Option (Kind × Bool) → List ℕ

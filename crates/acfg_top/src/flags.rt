@@ -4,8 +4,10 @@ ghost use Rattle.std.specs.Prelude.{◌≡◌, ◌++◌, IsTrue, IfOk, IfErr, On
 ghost use Rattle.std.specs.List.{flat_map};
 ghost use Rattle.acfg_device.specs.Only.{OnlyReads, OnlySays};
 ghost use Rattle.acfg_decls.specs.Reading.{Declares};
+ghost use Rattle.acfg_dump.specs.Lines.{flag_line};
+ghost use Rattle.acfg_dump.specs.Names.{permission_name, state_name};
 ghost use Rattle.acfg_top.specs.Bodies.{Comes, IsOf};
-ghost use Rattle.acfg_top.specs.Flags.{FlagsGives, flag_line, permission_name, state_name};
+ghost use Rattle.acfg_top.specs.Flags.{FlagsGives};
 ghost use Rattle.acfg_top.specs.Outcome.{Outcome, IsBroken};
 
 use crate::ending::{Ending, Stop};

@@ -4,9 +4,9 @@ ghost use Rattle.std.specs.Prelude.{◌≡◌, ◌==◌, ◌↔◌, ◌∷◌, �
 ghost use Rattle.std.specs.List.{list_any, slice_split};
 ghost use Rattle.std.specs.Str.{bytes_eq};
 ghost use Rattle.acfg_base.specs.Bytes.{space};
+ghost use Rattle.acfg_base.specs.Found.{Finds};
 ghost use Rattle.acfg_base.specs.Paths.{IsPath};
 ghost use Rattle.acfg_daemon.specs.Lines.{lines};
-ghost use Rattle.acfg_daemon.specs.Requests.{Finds};
 ghost use Rattle.acfg_top.specs.JobBodies.{AreJobWords, IsListed, IsNext, job_of, jobs_of};
 ghost use Rattle.acfg_top.specs.JobList.{AreJobs, IsFirstBadLine, IsJob, Job as Asked};
 

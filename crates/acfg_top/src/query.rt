@@ -2,6 +2,7 @@
 
 ghost use Rattle.std.specs.Prelude.{◌≡◌, ◌++◌, IsTrue, IfOk, IfErr, OnErr, codes, string_bytes};
 ghost use Rattle.std.specs.Option.{option_map};
+ghost use Rattle.acfg_base.specs.Words.{bool_word};
 ghost use Rattle.acfg_device.specs.Only.{OnlyReads, OnlySays};
 ghost use Rattle.acfg_images.specs.declared.purpose.Use.TheVariants.{Copy as for_a_copy};
 ghost use Rattle.acfg_images.specs.Faults.{checked, parts_in};
@@ -11,7 +12,7 @@ ghost use Rattle.acfg_top.specs.Bodies.{Comes, IsOf, refusal_words};
 ghost use Rattle.acfg_top.specs.Outcome.{Outcome, IsBroken, Refused};
 ghost use Rattle.acfg_top.specs.Query.{QueryGives, file_in, all_four, set_in, told_of, judged as given};
 ghost use Rattle.acfg_top.specs.Query.{answer_line, found_line};
-ghost use Rattle.acfg_top.specs.Query.{kind_name as name_of_kind, value_name as name_of_value};
+ghost use Rattle.acfg_top.specs.Query.{kind_name as name_of_kind};
 
 use crate::ending::{Ending, Stop};
 use crate::image_words::{faulty_file, file_name};
@@ -219,7 +220,7 @@ fn kind_name(kind: Kind) -> &'static str
 }
 
 fn value_name(value: bool) -> &'static str
-    ensures { result.now ≡ name_of_value value }
+    ensures { result.now ≡ bool_word value }
 {
     if value { "true" } else { "false" }
 }

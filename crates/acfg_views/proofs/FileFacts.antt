@@ -3,12 +3,13 @@ use Rattle.std.proofs.Common.{◌≡◌, ℕ, ◌+◌, ◌-◌, ◌%◌, ◌^◌
 use Rattle.std.specs.List.{concat}
 use Rattle.std.proofs.lemmas.Bool.Decides.{nat_tests}
 use Rattle.std.proofs.lemmas.List.{length-append}
+use Rattle.acfg_base.specs.Release.{kind_number}
 use Rattle.acfg_base.specs.declared.releases.Kind.{Kind}
 use Rattle.acfg_base.specs.Names.{IsContainer}
 use Rattle.acfg_views.specs.declared.fault.ViewFault.{ViewFault}
 use Rattle.acfg_views.specs.declared.fault.ViewFault.TheVariants.{BadVersion, BadText, BadFileType, BadSize, BadOffsets}
 use Rattle.acfg_views.specs.Fields.{IsBytes, number, string}
-use Rattle.acfg_views.specs.Layout.{VERSION, Package, Flag, kind_number, package_node, flag_node, IsPackageNode, IsFlagNode, map_header, list_header, map_header_size, list_header_size}
+use Rattle.acfg_views.specs.Layout.{VERSION, Package, Flag, package_node, flag_node, IsPackageNode, IsFlagNode, map_header, list_header, map_header_size, list_header_size}
 use Rattle.acfg_views.specs.Tests.{is_container, is_package, is_name}
 use Rattle.acfg_views.specs.Reading.{◌>>=◌, number_at, string_at, version_at, container_at, package_name_at, flag_name_at, file_type_at, size_at, kind_at, OpenMap, OpenList, are_map_offsets, are_list_offsets, opened_map, opened_list, package_at, flag_at}
 use Rattle.acfg_views.proofs.Exact.{Takes, Takes-then, Takes-none, IsExact, bind_ok, passed, ok_is, length-number, one_byte, two_bytes, four_bytes, number_exact, string_exact, IsStringText, tested_exact, kind_exact}

@@ -2,8 +2,8 @@
 use Rattle.std.specs.Prelude.{◌≡◌, ℕ, ◌+◌, ◌*◌, ◌<◌, ◌≤◌, ◌^◌, List, [], ◌∷◌, ◌++◌, length, All}
 use Rattle.std.specs.List.{concat, flat_map}
 use Rattle.acfg_base.specs.Names.{IsName, IsPackage, IsContainer}
+use Rattle.acfg_base.specs.Release.{kind_number}
 use Rattle.acfg_base.specs.declared.releases.Kind.{Kind}
-use Rattle.acfg_base.specs.declared.releases.Kind.TheVariants.{ReadWrite, ReadOnly, Fixed}
 use Rattle.acfg_views.specs.Fields.{number, string}
 
 -- the version of the files
@@ -39,12 +39,6 @@ pub record Flag : Type 0 where
   pub kind : Kind
   pub index : ℕ
   pub next : ℕ
-
--- the number of a flag's type
-abbrev pub kind_number : Kind → ℕ
-kind_number ReadWrite = 0
-kind_number ReadOnly = 1
-kind_number Fixed = 2
 
 unfoldable pub package_node : Package → List ℕ
 package_node node = concat (

@@ -1,7 +1,7 @@
 -- The shortest spelling, as the loop writes it byte after byte.
 use Rattle.std.proofs.Common.{◌≡◌, ℕ, zero, suc, ◌+◌, ◌*◌, ◌/◌, ◌%◌, ◌^◌, ◌<◌, ◌≤◌, List, [], ◌∷◌, ◌++◌, refl, append_assoc, arith}
 use Rattle.std.proofs.lemmas.Nat.{shr_below}
-use Rattle.std.proofs.lemmas.Bool.{le-ltb, lt-ltb}
+use Rattle.std.proofs.lemmas.Bool.{le-ltb}
 use Rattle.acfg_wire.specs.Varint.{shortest_within, shortest}
 
 -- what is still to be written: the rest completes the bytes, and there is room for it up to the limit
@@ -29,10 +29,3 @@ left_next bytes whole len limit rest left above = at left.more left.few left.com
           completes = rw (e, append_assoc bytes ((128 + rest % 128) ∷ []) (shortest_within more (rest / 128))) (rw (le-ltb rest 128 above) at completes);
           room = omega arith;
         }
-
-pub left_last : (bytes whole : List ℕ) (len limit rest : ℕ) → IsLeft bytes whole len limit rest → rest < 128 → bytes ++ rest ∷ [] ≡ whole
-left_last bytes whole len limit rest left below = at left.more left.completes
-  where
-    at : (more : ℕ) → bytes ++ shortest_within more rest ≡ whole → bytes ++ rest ∷ [] ≡ whole
-    at zero completes = completes
-    at (suc more) completes = rw (lt-ltb rest 128 below) at completes

@@ -55,11 +55,6 @@ module _ (bytes : List ℕ) (value i b : ℕ) (total : Result (ℕ × List ℕ) 
   at_byte : with_low value (2 ^ (7 * i)) (varint_within (9 - i) (b ∷ drop (i + 1) bytes)) ≡ total
   at_byte = let e : drop i bytes ≡ b ∷ drop (i + 1) bytes = drop_more bytes i 0 here ∙ ap (λ (x : ℕ). x ∷ drop (i + 1) bytes) byte in rw e at so_far
 
-  pub ends_long : i ≡ 9 → 1 < b → total ≡ Err LongVarint
-  ends_long nine over =
-      let k : 9 - i ≡ 0 = omega arith in
-      let e = rw (k, over_byte b (drop (i + 1) bytes) over) at at_byte in sym e
-
   pub ends_here : b < 128 → (i ≡ 9 → b ≤ 1) → total ≡ Ok (value + 2 ^ (7 * i) * b, drop (i + 1) bytes)
   ends_here below bit =
       let last : varint_within (9 - i) (b ∷ drop (i + 1) bytes) ≡ Ok (b, drop (i + 1) bytes) = last_byte (9 - i) b (drop (i + 1) bytes) below (λ (e : 9 - i ≡ 0). bit (omega arith)) in

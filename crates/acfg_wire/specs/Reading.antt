@@ -1,5 +1,5 @@
--- What the private readers compute of the bytes at the front. No public contract cites it: `Fields` and `Faults`
--- say what it has to be.
+-- What the private readers compute of the bytes at the front. `Laid` alone builds on it; what it has to be `Fields`
+-- and `Faults` say.
 use Rattle.std.specs.Prelude.{◌≡◌, ℕ, zero, suc, ◌+◌, ◌-◌, ◌*◌, ◌/◌, ◌%◌, List, [], ◌∷◌, length, take, drop, Result}
 use Rattle.std.specs.Prelude.{Ok, Err, nat_lt, ◌==◌, if◌then◌else◌}
 use Rattle.acfg_wire.specs.declared.fault.Fault.{Fault}

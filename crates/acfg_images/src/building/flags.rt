@@ -5,7 +5,8 @@ ghost use Rattle.std.specs.Prelude.{slice_index, slice_set, slice_index_or, IsPe
 ghost use Rattle.std.specs.List.{flat_map};
 ghost use Rattle.std.specs.List.Sorted.{IsSortedByKey, IsStableByKey};
 ghost use Rattle.std.specs.Ordering.{nat_cmp};
-ghost use Rattle.acfg_views.specs.Layout.{flag_node, kind_number as number_of_kind};
+ghost use Rattle.acfg_base.specs.Release.{kind_number as number_of_kind};
+ghost use Rattle.acfg_views.specs.Layout.{flag_node};
 ghost use Rattle.acfg_images.specs.Links.{flag_node_key, first_in};
 ghost use Rattle.acfg_images.specs.Image.{by_bucket, new_info};
 ghost use Rattle.acfg_images.specs.Build.{told};

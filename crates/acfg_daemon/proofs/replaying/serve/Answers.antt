@@ -1,10 +1,11 @@
 use Rattle.std.proofs.Common.{◌∙◌, Err, inl, refl, ap, subst}
 use Rattle.std.specs.Prelude.{Option}
 use Rattle.std.proofs.lemmas.Result.{err_from_is_err_and}
+use Rattle.acfg_base.specs.Found.{Finds}
 use Rattle.acfg_model.specs.declared.requests.Request.{Request}
 use Rattle.acfg_store.specs.Applied.{state_in}
 use Rattle.acfg_daemon.specs.Playing.{ServesTo}
-use Rattle.acfg_daemon.specs.Requests.{Finds, Spells}
+use Rattle.acfg_daemon.specs.Requests.{Spells}
 use Rattle.acfg_daemon.proofs.Answered.{device_of, rests, way_serves}
 use Rattle.acfg_daemon.proofs.Numbered.{numbered}
 use Rattle.acfg_daemon.proofs.replaying.serve.Goals as goal

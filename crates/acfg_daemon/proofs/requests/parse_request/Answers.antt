@@ -3,7 +3,8 @@ use Rattle.std.proofs.lemmas.Result.{IfOk-weaker}
 use Rattle.std.specs.List.{slice_split}
 use lib.Dec.{eqb}
 use Rattle.acfg_base.specs.Bytes.{space}
-use Rattle.acfg_daemon.specs.Requests.{AreWords, Spells, Finds}
+use Rattle.acfg_base.specs.Found.{Finds}
+use Rattle.acfg_daemon.specs.Requests.{AreWords, Spells}
 use Rattle.acfg_daemon.proofs.Words.{spelled_text, words_from_spelled, spelled_from_words, Finds-weaker}
 use Rattle.acfg_daemon.proofs.requests.parse_request.Goals as goal
 

@@ -3,7 +3,7 @@ use Rattle.std.specs.Prelude.{All}
 use Rattle.std.specs.List.{AllByRecursion, flat_map}
 use Rattle.std.proofs.lemmas.Result.{err_from_is_err_and}
 use Rattle.acfg_decls.specs.declared.flags.Flag.{Flag}
-use Rattle.acfg_decls.specs.Compile.{FailsToCompile, FirstFailsIn, Holds, IfIn, declarations_tests, declared, file_tests, flag_of, sourced}
+use Rattle.acfg_decls.specs.Compile.{FailsToCompile, FirstFailsIn, Holds, IfIn, declarations_tests, declared, file_tests, flag_of, sourced, all_tests}
 use Rattle.acfg_decls.specs.Flags.{IsLawful}
 use Rattle.acfg_decls.specs.Places.{Finds, names}
 use Rattle.acfg_decls.proofs.Distinct.{distinct, no_flags_back}
@@ -22,7 +22,7 @@ returns-in_err-declare_all-clause-err c =
     let container = c.args.container.now in
     let files = c.args.declarations.now in
     let values = c.args.values.now in
-    rw (p.1, p.2) (in_weaker c.in_err-declare_all.field-0.0 (FirstFailsIn 0 (declarations_tests asked container [] files)) (FailsToCompile asked container files values)
+    rw (p.1, p.2) (in_weaker c.in_err-declare_all.field-0.0 (FirstFailsIn 0 (declarations_tests asked container [] files)) (FailsToCompile (all_tests asked container files values))
     (λ file place what fails. in_front 0 (declarations_tests asked container [] files) (map (file_tests asked (declared files)) values) file place what fails)
     (subst (λ flags. IfIn c.in_err-declare_all.field-0.0 (FirstFailsIn 0 (declarations_tests asked container (names flags) files))) c.in_ok-list.ensures c.in_err-declare_all.ensures.err))
 
@@ -34,7 +34,7 @@ returns-in_err-set_all-clause-err c =
     let files = c.args.declarations.now in
     let values = c.args.values.now in
     let made = c.in_ok-declare_all.ensures.flags ∙ ap (λ flags. flags ++ map (flag_of asked container []) (declared files)) c.in_ok-list.ensures in
-    rw (p.1, p.2) (in_weaker c.in_err-set_all.field-0.0 _ (FailsToCompile asked container files values)
+    rw (p.1, p.2) (in_weaker c.in_err-set_all.field-0.0 _ (FailsToCompile (all_tests asked container files values))
     (λ file place what fails.
     in_behind 0 (declarations_tests asked container [] files) (map (file_tests asked (declared files)) values) file place what
     (subst (λ flags. AllByRecursion (AllByRecursion Holds) (declarations_tests asked container (names flags) files)) c.in_ok-list.ensures c.in_ok-declare_all.ensures.passed)

@@ -1,7 +1,7 @@
 use Rattle.std.proofs.Common.{◌∷◌, ◌++◌, ◌∙◌, ap₂, arith}
 use Rattle.std.specs.Ordering.{nat_cmp, ordering_then}
 use Rattle.std.specs.Cmp.Lexicographic.{slice_cmp}
-use Rattle.acfg_decls.specs.Flags.{dot}
+use Rattle.acfg_base.specs.Names.{dot}
 use Rattle.acfg_decls.proofs.Fronts.{fronts}
 use Rattle.acfg_decls.proofs.order.compare_joined.Goals as goal
 

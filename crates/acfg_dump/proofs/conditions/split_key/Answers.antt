@@ -2,8 +2,8 @@ use Rattle.std.proofs.Common.{◌≡◌, ◌<◌, ℕ, List, length, lit<, sym, 
 use Rattle.std.specs.List.{position_or_len, before_first, after_first}
 use Rattle.std.proofs.lemmas.Str.Pattern.{split_once_first}
 use lib.Dec.{eqb}
+use Rattle.acfg_base.specs.Bytes.{colon}
 use Rattle.acfg_dump.specs.Bodies.{IsCutAt, IsWithout}
-use Rattle.acfg_dump.specs.Filter.{colon}
 use Rattle.acfg_dump.proofs.Firsts.{cut_at_first, uncut}
 use Rattle.acfg_dump.proofs.conditions.split_key.Goals as goal
 

@@ -1,5 +1,6 @@
 use Rattle.std.proofs.Common.{◌≡◌, ◌+◌, ◌≤◌, length, map, ap, ◌∙◌, arith}
-use Rattle.acfg_dump.specs.Filter.{extent, pieces, plus}
+use Rattle.acfg_base.specs.Bytes.{plus}
+use Rattle.acfg_dump.specs.Filter.{extent, pieces}
 use Rattle.acfg_dump.proofs.Extents.{extent_pieces, words}
 use Rattle.acfg_dump.proofs.filter.read_alternative.Goals as goal
 

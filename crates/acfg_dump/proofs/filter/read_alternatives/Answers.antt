@@ -4,9 +4,10 @@ use Rattle.std.specs.Prelude.{sum_by}
 use Rattle.std.proofs.lemmas.List.{map-append, take_all, length-map}
 use Rattle.std.proofs.lemmas.Result.{err_from_is_err_and}
 use Rattle.std.proofs.lemmas.Slice.Zip.{all_zipped_more}
+use Rattle.acfg_base.specs.Bytes.{plus}
 use Rattle.acfg_dump.specs.declared.conditions.Condition.{Condition}
 use Rattle.acfg_dump.specs.Bodies.{AlternativesFail, ConditionsFail}
-use Rattle.acfg_dump.specs.Filter.{extent, pieces, plus, IsCondition}
+use Rattle.acfg_dump.specs.Filter.{extent, pieces, IsCondition}
 use Rattle.acfg_dump.proofs.Extents.{extents_each, piece, words}
 use Rattle.acfg_dump.proofs.OneCondition.{all_alternatives, fault_among}
 use Rattle.acfg_dump.proofs.filter.read_alternatives.Goals as goal

@@ -1,7 +1,7 @@
 use Rattle.std.proofs.Common.{◌≡◌, ◌++◌, ◌-◌, ◌<◌, ℕ, List, length, take, drop, ap, ◌∙◌, arith}
 use Rattle.std.proofs.lemmas.List.{length-drop, take_all}
 use Rattle.std.proofs.lemmas.Result.{on_ok_weaker}
-use Rattle.acfg_dump.specs.Filter.{comma}
+use Rattle.acfg_base.specs.Bytes.{comma}
 use Rattle.acfg_dump.proofs.Joined.{put_texts}
 use Rattle.acfg_dump.proofs.values.put_bugs.Goals as goal
 

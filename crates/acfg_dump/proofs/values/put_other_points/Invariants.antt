@@ -1,6 +1,6 @@
 use Rattle.std.proofs.Common.{◌≡◌, ◌∷◌, ◌++◌, take}
 use Rattle.std.specs.List.{flat_map}
-use Rattle.acfg_dump.specs.Filter.{comma}
+use Rattle.acfg_base.specs.Bytes.{comma}
 use Rattle.acfg_dump.specs.Lines.{point_text}
 use Rattle.acfg_dump.proofs.values.put_other_points.Given as goal
 

@@ -2,9 +2,9 @@ use Rattle.std.proofs.Common.{◌≡◌, Bool, List, [], ◌∷◌, ◌++◌, ta
 use Rattle.std.specs.List.{cons_option}
 use Rattle.acfg_base.specs.Places.{AreInOrder}
 use Rattle.acfg_base.specs.Release.{key_cmp}
+use Rattle.acfg_model.specs.Bodies.{override_row}
 use Rattle.acfg_model.specs.declared.views.Override.{Override}
 use Rattle.acfg_model.specs.Views.{override_key, overrides_of}
-use Rattle.acfg_model.specs.FlagStates.{override_row}
 use Rattle.acfg_model.proofs.Shown.{listed, listed-more, overrides-in_order, overrides_of-listed}
 use Rattle.acfg_model.proofs.containers.overrides.Goals as goal
 use Rattle.acfg_model.proofs.containers.overrides.Goals.{in-Some+in_ok-clone+in_ok-clone-2+in_ok-push, in_default}

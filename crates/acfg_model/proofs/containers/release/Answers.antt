@@ -1,9 +1,9 @@
 use Rattle.std.proofs.Common.{◌≡◌, map, sym, ap, subst, ◌∙◌, take_all}
 use Rattle.acfg_base.specs.Places.{AreInOrder}
 use Rattle.acfg_base.specs.Release.{key_cmp, key_of, release_of}
-use Rattle.acfg_model.specs.FlagStates.{entry_in}
 use Rattle.acfg_model.proofs.Shown.{entries-in_order, release_of-entries}
 use Rattle.acfg_model.proofs.containers.release.Goals as goal
+use Rattle.acfg_model.specs.Bodies.{entry_in}
 
 pub from_sorted-requires : goal.from_sorted-requires
 from_sorted-requires c =

@@ -1,6 +1,6 @@
 use Rattle.std.proofs.Common.{All, take}
 use Rattle.std.specs.Prelude.{IsSome, IsTrue}
-use Rattle.acfg_images.specs.Set.{is_read_write}
+use Rattle.acfg_base.specs.Release.{is_read_write}
 use Rattle.acfg_store.specs.Stands.{local_at}
 use Rattle.acfg_store.proofs.overrides.are_writable.Given as goal
 

@@ -2,7 +2,8 @@ use Rattle.std.proofs.Common.{refl, subst, inl, inr, [], ap, ◌∙◌, ℕ, Glo
 use Rattle.std.specs.Prelude.{Vec}
 use Rattle.std.specs.List.{flat_map}
 use Rattle.acfg_decls.specs.Compile.{FailsOwn, IfIn}
-use Rattle.acfg_top.specs.Flags.{fault_words, flag_line}
+use Rattle.acfg_dump.specs.Lines.{flag_line}
+use Rattle.acfg_top.specs.Flags.{fault_words}
 use Rattle.acfg_top.specs.Outcome.{Done, Refused}
 use Rattle.acfg_top.proofs.flags.compiled.Goals as goal
 

@@ -1,6 +1,6 @@
 use Rattle.std.proofs.Common.{◌≡◌, take, string_bytes}
 use Rattle.std.specs.List.{flat_map}
-use Rattle.acfg_top.specs.Flags.{flag_line}
+use Rattle.acfg_dump.specs.Lines.{flag_line}
 use Rattle.acfg_top.proofs.flags.listing.Given as goal
 
 abbrev pub invariant-loop-flag : goal.invariant-loop-flag

@@ -1,7 +1,7 @@
 use Rattle.std.proofs.Common.{◌≡◌, map, subst, sym, ◌∙◌, inl, inr, arith, false, true}
 use Rattle.std.specs.Prelude.{Contains, option_map}
 use Rattle.std.proofs.lemmas.List.{length-map}
-use Rattle.acfg_daemon.specs.Requests.{Finds}
+use Rattle.acfg_base.specs.Found.{Finds}
 use Rattle.acfg_top.specs.JobBodies.{job_of, jobs_of}
 use Rattle.acfg_top.specs.JobList.{IsJob}
 use Rattle.acfg_top.proofs.JobWords.{dir_stands, stands_at}

@@ -1,6 +1,6 @@
 use Rattle.std.proofs.Common.{subst}
 use Rattle.std.specs.Prelude.{IfOk, option_map}
-use Rattle.acfg_daemon.specs.Requests.{Finds}
+use Rattle.acfg_base.specs.Found.{Finds}
 use Rattle.acfg_top.specs.JobBodies.{job_of}
 use Rattle.acfg_top.specs.JobList.{IsJob}
 use Rattle.acfg_top.proofs.JobWords.{found_job, job_text}

@@ -1,6 +1,6 @@
 use Rattle.std.proofs.Common.{subst, sym, lit<}
 use Rattle.std.specs.Prelude.{IfOk, option_map}
-use Rattle.acfg_daemon.specs.Requests.{Finds}
+use Rattle.acfg_base.specs.Found.{Finds}
 use Rattle.acfg_daemon.proofs.Words.{last_word}
 use Rattle.acfg_top.specs.JobBodies.{AreJobWords, job_of}
 use Rattle.acfg_top.proofs.JobWords.{first_word, not_one}

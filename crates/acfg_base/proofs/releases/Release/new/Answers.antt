@@ -1,13 +1,12 @@
 use Rattle.std.proofs.Common.{subst, true≢false, refl}
-use Rattle.acfg_base.specs.Places.{AreInOrder}
+use Rattle.acfg_base.specs.Places.{AreInOrder, SomeStepDown}
 use Rattle.acfg_base.specs.Release.{key_cmp, key_of, AreNamed}
-use Rattle.acfg_base.specs.Bodies.{SomeStepDown}
 use Rattle.acfg_base.proofs.Keys.{no_twins, twins_found, release_permuted}
 use Rattle.acfg_base.proofs.releases.Release.new.Goals as goal
 
 pub returns-then-not-rise-clause-twins : goal.returns-then-not-rise-clause-twins
 returns-then-not-rise-clause-twins c =
-    let stop = subst SomeStepDown c.deref.ensures.value c.if-not-rise.ensures in
+    let stop = subst (SomeStepDown key_cmp key_of) c.deref.ensures.value c.if-not-rise.ensures in
     (λ _. twins_found _ _ c.sort.ensures.permutation c.sort.ensures.sorted stop, λ _. refl)
 
 pub invariant_of-result : goal.invariant_of-result

@@ -2,8 +2,8 @@ use Rattle.std.proofs.Common.{inl, subst, All, arith}
 use Rattle.std.specs.Ordering.{nat_cmp}
 use Rattle.std.specs.Cmp.Lexicographic.{slice_cmp, nat_list_cmp_total}
 use Rattle.std.proofs.lemmas.List.Sorted.{All-permutation}
-use Rattle.acfg_base.specs.Places.{AreInOrder}
-use Rattle.acfg_decls.specs.Flags.{full_name, IsLawful, SomeStepDown}
+use Rattle.acfg_base.specs.Places.{AreInOrder, SomeStepDown}
+use Rattle.acfg_decls.specs.Flags.{full_name, IsLawful}
 use Rattle.acfg_decls.proofs.Twins.{twins_found}
 use Rattle.acfg_decls.proofs.Blank.{blank}
 use Rattle.acfg_decls.proofs.flags.Flags.new.Goals as goal

@@ -2,7 +2,8 @@ use Rattle.std.proofs.Common.{◌≡◌, ◌+◌, ◌≤◌, List, ℕ, Bool, tr
 use Rattle.std.specs.List.{AllZip}
 use Rattle.std.specs.Str.{bytes_eq}
 use Rattle.std.proofs.lemmas.Result.{err_from_is_err_and}
-use Rattle.acfg_dump.specs.Filter.{comma, condition_texts, extent, pieces, plus, IsCondition}
+use Rattle.acfg_base.specs.Bytes.{plus, comma}
+use Rattle.acfg_dump.specs.Filter.{condition_texts, extent, pieces, IsCondition}
 use Rattle.acfg_dump.proofs.Extents.{extent_pieces, words}
 use Rattle.acfg_dump.proofs.OneCondition.{filter_fault}
 use Rattle.acfg_dump.proofs.filter.Filter.parse.Goals as goal

@@ -1,9 +1,9 @@
 use Rattle.std.proofs.Common.{◌≡◌, map, sym, ap, subst, ◌∙◌, take_all, option_map}
 use Rattle.acfg_base.specs.Places.{AreInOrder}
 use Rattle.acfg_base.specs.Release.{key_cmp}
+use Rattle.acfg_model.specs.Bodies.{booted_row}
 use Rattle.acfg_model.specs.Views.{booted_key, boot_of}
 use Rattle.acfg_model.specs.Step.{boot_map}
-use Rattle.acfg_model.specs.FlagStates.{booted_row}
 use Rattle.acfg_model.proofs.Carried.{booted-in_order, boot_of-rows}
 use Rattle.acfg_model.proofs.containers.Container.boot_copy.Goals as goal
 

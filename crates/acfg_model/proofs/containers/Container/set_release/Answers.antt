@@ -1,8 +1,9 @@
 use Rattle.std.proofs.Common.{◌≡◌, map, sym, ap, subst, ◌∙◌, option_map}
 use Rattle.acfg_base.specs.Release.{entries_of}
+use Rattle.acfg_model.specs.Bodies.{carried_row}
 use Rattle.acfg_model.specs.Views.{boot_of}
 use Rattle.acfg_model.specs.Step.{with_release}
-use Rattle.acfg_model.specs.FlagStates.{container_in, carried_row, IsLawful}
+use Rattle.acfg_model.specs.FlagStates.{container_in, IsLawful}
 use Rattle.acfg_model.proofs.Carried.{rows-with_release, lawful-with_release}
 use Rattle.acfg_model.proofs.containers.Container.set_release.Goals as goal
 

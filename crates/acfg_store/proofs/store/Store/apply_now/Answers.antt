@@ -9,10 +9,10 @@ use Rattle.acfg_model.specs.declared.requests.Reply.TheVariants.{Fine}
 use Rattle.acfg_model.specs.State.{State}
 use Rattle.acfg_model.specs.Step.{IsRenewable, change_step}
 use Rattle.acfg_model.proofs.Kept.{pair_of}
+use Rattle.acfg_store.specs.Commits.{IsEitherState, LeavesState}
 use Rattle.acfg_store.specs.declared.containers.Kept.{Kept}
 use Rattle.acfg_store.specs.Applied.{IsOpen, LeavesBetween, state_in}
 use Rattle.acfg_store.specs.BootPlans.{IsRenewalPlan, LeavesRenewed, renewed_at}
-use Rattle.acfg_store.specs.Commits.{LeavesEither}
 use Rattle.acfg_store.specs.Kept.{entry_of}
 use Rattle.acfg_store.specs.Names.{IsOfDirectory}
 use Rattle.acfg_store.specs.Opening.{entries_of}
@@ -157,7 +157,7 @@ returns-in_err-commit_renewal-in-Ok-clause-cut g c told settled =
     (c.in_err-commit_renewal-in-Ok.ensures.cut told (c.in_ok-commit-in-Ok.ensures.settled told settled))
     (λ left said leaves. then_leaves c.self.inside.containers.items c.change_now_in.new.containers.items c.self.invariant c.args.name.now c.args.change.now c.in-Ok.at c.in-Ok.ensures first spoken (string_bytes c.self.inside.dir) later words
     (λ name foreign. early.others name (λ written. foreign (own_of (string_bytes c.self.inside.dir) c.self.inside.containers.items c.change_now_in.new.containers.items c.args.name.now c.args.change.now c.in-Ok.at c.in-Ok.ensures.changed_at c.self.invariant c.in_ok-plan-in-Ok.plan planned c.as_slice.result.now c.as_str-in-Ok-2.result.now c.as_str-in-Ok-3.result.now c.as_slice.ensures.value c.as_str-in-Ok-2.ensures.value c.as_str-in-Ok-3.ensures.value name written))) early.said other left said
-    (subst (λ (t : List ℕ × Key). LeavesEither later words t.0 (entries_of c.change_now_in.new.containers.items) (renewed_at (entries_of c.change_now_in.new.containers.items) c.in-Ok.at t.1 other) left said) (λ i. (c.as_str-in-Ok-4.ensures.value i, c.key-in-Ok.ensures i)) (leaves other))))
+    (subst (λ (t : List ℕ × Key). LeavesState later words t.0 (IsEitherState (entries_of c.change_now_in.new.containers.items) (renewed_at (entries_of c.change_now_in.new.containers.items) c.in-Ok.at t.1 other)) left said) (λ i. (c.as_str-in-Ok-4.ensures.value i, c.key-in-Ok.ensures i)) (leaves other))))
 
 pub returns-in_ok-commit_renewal-in-Ok-clause-changes : goal.returns-in_ok-commit_renewal-in-Ok-clause-changes
 returns-in_ok-commit_renewal-in-Ok-clause-changes g c =
@@ -200,7 +200,7 @@ returns-in_ok-commit_renewal-in-Ok-clause-cut g c told settled =
     (c.in_ok-commit_renewal-in-Ok.ensures.cut told (c.in_ok-commit-in-Ok.ensures.settled told settled))
     (λ left said leaves. then_leaves c.self.inside.containers.items c.change_now_in.new.containers.items c.self.invariant c.args.name.now c.args.change.now c.in-Ok.at c.in-Ok.ensures first spoken (string_bytes c.self.inside.dir) later words
     (λ name foreign. early.others name (λ written. foreign (own_of (string_bytes c.self.inside.dir) c.self.inside.containers.items c.change_now_in.new.containers.items c.args.name.now c.args.change.now c.in-Ok.at c.in-Ok.ensures.changed_at c.self.invariant c.in_ok-plan-in-Ok.plan planned c.as_slice.result.now c.as_str-in-Ok-2.result.now c.as_str-in-Ok-3.result.now c.as_slice.ensures.value c.as_str-in-Ok-2.ensures.value c.as_str-in-Ok-3.ensures.value name written))) early.said other left said
-    (subst (λ (t : List ℕ × Key). LeavesEither later words t.0 (entries_of c.change_now_in.new.containers.items) (renewed_at (entries_of c.change_now_in.new.containers.items) c.in-Ok.at t.1 other) left said) (λ i. (c.as_str-in-Ok-4.ensures.value i, c.key-in-Ok.ensures i)) (leaves other))))
+    (subst (λ (t : List ℕ × Key). LeavesState later words t.0 (IsEitherState (entries_of c.change_now_in.new.containers.items) (renewed_at (entries_of c.change_now_in.new.containers.items) c.in-Ok.at t.1 other)) left said) (λ i. (c.as_str-in-Ok-4.ensures.value i, c.key-in-Ok.ensures i)) (leaves other))))
 
 pub returns-in_ok-commit_renewal-in-Ok-clause-made : goal.returns-in_ok-commit_renewal-in-Ok-clause-made
 returns-in_ok-commit_renewal-in-Ok-clause-made g c =
