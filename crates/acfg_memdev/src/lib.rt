@@ -10,6 +10,3 @@ mod file;
 mod slots;
 
 pub use device::MemDevice;
-
-#[cfg(test)]
-mod tests;

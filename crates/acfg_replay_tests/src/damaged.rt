@@ -1,7 +1,8 @@
 //! Directories with a damaged file, and one that is spelled byte by byte.
 
+use crate::calling::replay;
 use crate::replaying::device;
-use acfg_daemon::{DaemonFault, replay};
+use acfg_daemon::DaemonFault;
 use acfg_device::{Device, Panel};
 use acfg_memdev::MemDevice;
 use std::alloc::Global;
@@ -69,8 +70,9 @@ fn each_file_at_fault_is_told(rt: HostRuntime) -> Result<(), Fail> {
 }
 
 /// A list of one container `c`: release slot 1, override slot 0, and the digest of its release's files.
-const LIST: &[u8] =
-    b"ACRF\x01\0\0\0\x01\0\0\0\x01\0\0\0c\x01\0\x21\x02\x24\x43\x6a\xb1\x69\x00\xa9\xf9\xb4\x7e\x7a\xfd\x08\xcc\x05\xb2\x3b\xb2\xa5\x52\x6c\xdc\x8c\xf0\xb5\x70\x59\x90\xaf\x08";
+const LIST: &[u8] = b"ACRF\x01\0\0\0\x01\0\0\0\x01\0\0\0c\x01\0\
+    \x21\x02\x24\x43\x6a\xb1\x69\x00\xa9\xf9\xb4\x7e\x7a\xfd\x08\xcc\
+    \x05\xb2\x3b\xb2\xa5\x52\x6c\xdc\x8c\xf0\xb5\x70\x59\x90\xaf\x08";
 
 /// The files that a slot has in common with the folder of the release, each with its name there.
 const COPIES: [(&str, &str); 6] = [

@@ -2,7 +2,11 @@
 #![tactic(auto)]
 
 #[cfg(test)]
+mod calling;
+#[cfg(test)]
 mod damaged;
+#[cfg(test)]
+mod memory;
 #[cfg(test)]
 mod replaying;
 #[cfg(test)]

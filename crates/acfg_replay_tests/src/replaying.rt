@@ -1,11 +1,11 @@
 //! Scripts replayed on a device directory in memory.
 
+use crate::calling::{replay, run};
 use acfg_base::{ContainerName, Kind, Name, PackageName, Sequence, Text};
-use acfg_daemon::{DaemonFault, replay};
+use acfg_daemon::DaemonFault;
 use acfg_decls::{Flag, Flags, Point};
 use acfg_images::build;
 use acfg_memdev::MemDevice;
-use acfg_top::run;
 use std::alloc::Global;
 use std::str;
 use std::test::Fail;

@@ -1,7 +1,8 @@
 //! Scripts that are broken off: a cut of power after each call, and each call failing.
 
+use crate::calling::replay;
 use crate::replaying::device;
-use acfg_daemon::{DaemonFault, replay};
+use acfg_daemon::DaemonFault;
 use acfg_memdev::MemDevice;
 use std::alloc::Global;
 use std::test::Fail;
@@ -109,7 +110,7 @@ fn each_cut_leaves_a_state_of_the_script(rt: HostRuntime) -> Result<(), Fail> {
     let mut whole = device(alloc, Vec::new(alloc))?;
     assert!(rt; replay(alloc, &mut whole, "dev", script.as_bytes()).is_ok());
     for calls in 0..=whole.calls() {
-        for names in [0, 1, 2, 12] {
+        for names in 0..=12 {
             for fill in [None, Some(0), Some(255)] {
                 let mut left = whole.cut(alloc, calls, names, fill)?;
                 assert!(rt; is_allowed(alloc, &states, &mut left)?);

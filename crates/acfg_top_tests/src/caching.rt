@@ -1,8 +1,8 @@
 //! `create-cache` and `dump` over the device in memory.
 
+use crate::calling::run;
 use acfg_device::{OutOfMemory, Panel};
 use acfg_memdev::MemDevice;
-use acfg_top::run;
 use std::alloc::{AllocError, Global};
 use std::test::Fail;
 

@@ -1,11 +1,11 @@
 //! `create-all` over the device in memory.
 
 use crate::caching::{ONE_FLAG, words};
+use crate::calling::run;
 use crate::query::ONE_FLAG as ONE_SET;
 use crate::storage::ONE_STORED;
 use acfg_device::{OutOfMemory, Panel};
 use acfg_memdev::MemDevice;
-use acfg_top::run;
 use std::alloc::Global;
 use std::test::Fail;
 

@@ -4,6 +4,8 @@
 #[cfg(test)]
 mod caching;
 #[cfg(test)]
+mod calling;
+#[cfg(test)]
 mod daemon;
 #[cfg(test)]
 mod jobs;

@@ -1,8 +1,8 @@
 //! `query` over the device in memory, on sets whose bytes were made apart from this program.
 
+use crate::calling::run;
 use acfg_device::OutOfMemory;
 use acfg_memdev::MemDevice;
-use acfg_top::run;
 use std::alloc::{AllocError, Global};
 use std::test::Fail;
 

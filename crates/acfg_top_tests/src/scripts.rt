@@ -1,7 +1,7 @@
 //! Scripts over the device in memory.
 
+use crate::calling::run;
 use acfg_memdev::MemDevice;
-use acfg_top::run;
 use std::alloc::Global;
 use std::test::Fail;
 

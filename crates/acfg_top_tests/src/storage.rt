@@ -1,10 +1,10 @@
 //! `create-storage` over the device in memory. The expected files were made apart from this program.
 
 use crate::caching::{ENABLED, ONE_FLAG, words};
+use crate::calling::run;
 use crate::query::{NAMES, NO_FLAGS as NO_SET, ONE_FLAG as ONE_SET};
 use acfg_device::{OutOfMemory, Panel};
 use acfg_memdev::MemDevice;
-use acfg_top::run;
 use std::alloc::{AllocError, Global};
 use std::test::Fail;
 

@@ -1,9 +1,9 @@
 //! `run` over the device in memory.
 
+use crate::calling::run;
 use acfg_commit::say_line;
 use acfg_device::{Failed, OutOfMemory, Panel, ReadFault};
 use acfg_memdev::MemDevice;
-use acfg_top::run;
 use std::alloc::{AllocError, Global};
 use std::test::Fail;
 

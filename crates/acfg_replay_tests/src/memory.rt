@@ -1,5 +1,7 @@
-use crate::MemDevice;
+//! The device in memory: what a cut leaves, calls that fail, many calls.
+
 use acfg_device::{Device, Failed, OutOfMemory, Panel, ReadFault};
+use acfg_memdev::MemDevice;
 use std::alloc::Global;
 use std::process::Abort;
 use std::test::Fail;
