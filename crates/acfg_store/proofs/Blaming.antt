@@ -3,7 +3,6 @@ use Rattle.std.proofs.Common.{◌≡◌, refl, sym, subst}
 use Rattle.std.specs.Prelude.{Result, Ok}
 use Rattle.acfg_images.specs.declared.fault.FileType.TheVariants.{PackageMap}
 use Rattle.acfg_images.specs.declared.fault.ImageFault.{ImageFault}
-use Rattle.acfg_images.specs.declared.fault.ImageFault.TheVariants as fault
 use Rattle.acfg_images.specs.declared.purpose.Use.{Use}
 use Rattle.acfg_images.specs.Faults.{Opened, checked, parts_in}
 use Rattle.acfg_images.specs.Files as four

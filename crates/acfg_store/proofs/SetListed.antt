@@ -8,7 +8,6 @@ use Rattle.acfg_base.specs.declared.releases.Kind.{Kind}
 use Rattle.acfg_base.specs.Release as base
 use Rattle.acfg_base.specs.Release.{HasLawfulKeys, ReleaseMap, entries_of, key_cmp}
 use Rattle.acfg_base.proofs.Keys.{key_total}
-use Rattle.acfg_images.specs.declared.fault.ImageFault.TheVariants as fault
 use Rattle.acfg_images.specs.declared.purpose.Use.TheVariants as purpose
 use Rattle.acfg_images.specs.Faults.{Opened, checked, parts_in}
 use Rattle.acfg_images.specs.Files as four

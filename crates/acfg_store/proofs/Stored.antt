@@ -8,7 +8,6 @@ use Rattle.acfg_device.specs.Account.{Account}
 use Rattle.acfg_device.specs.Disk.{MayLeave}
 use Rattle.acfg_device.specs.Left.{LeavesSince}
 use Rattle.acfg_device.specs.Panel.{Files}
-use Rattle.acfg_device.specs.declared.panel.ReadFault.TheVariants as read
 use Rattle.acfg_device.proofs.Moments.{started, stays}
 use Rattle.acfg_model.specs.State.{IsValidContainer}
 use Rattle.acfg_store.specs.declared.containers.Kept.{Kept}
