@@ -20,6 +20,3 @@ pub use paths::is_path;
 pub use releases::{Entry, Kind, Release};
 pub use sequence::Sequence;
 pub use text::Text;
-
-#[cfg(test)]
-mod tests;

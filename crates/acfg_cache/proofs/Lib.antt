@@ -14,3 +14,4 @@ mod Said
 mod Again
 pub mod OneMerging
 mod ReadFlags
+mod Ends

@@ -12,7 +12,6 @@ use Rattle.acfg_wire.specs.Outcome.{moved}
 use Rattle.acfg_wire.specs.Laid.{laid, laid_of}
 use Rattle.acfg_cache.specs.Parts.{end_before, opened, opened_as, parts_in}
 use Rattle.acfg_cache.specs.Reading.{IfFault}
-use Rattle.acfg_cache.specs.declared.parts.PlacedField.{PlacedField}
 use Rattle.acfg_cache.specs.Bodies.{ReadFails, fault_moved, part_read, parts_read}
 use Rattle.acfg_cache.proofs.Steps.{next}
 
@@ -36,6 +35,28 @@ dropped : (total : ℕ) (fields : List Field) (i : ℕ) → end_before total (la
 dropped total fields zero = ends total fields
 dropped total [] (suc i) = refl
 dropped total (field ∷ fields) (suc i) = dropped total fields i
+
+-- ---- fields that are the same from a place on
+
+tail_drop : {X : Type 0} (xs : List X) (i : ℕ) → drop 1 (drop i xs) ≡ drop (i + 1) xs
+tail_drop xs zero = refl
+tail_drop [] (suc i) = refl
+tail_drop (x ∷ xs) (suc i) = tail_drop xs i
+
+slice_front : {X : Type 0} (xs : List X) (i : ℕ) → slice_get (drop i xs) 0 ≡ slice_get xs i
+slice_front xs zero = refl
+slice_front [] (suc i) = refl
+slice_front (x ∷ xs) (suc i) = slice_front xs i
+
+pub rest_same : {X : Type 0} (now old : List X) (i : ℕ) → drop i now ≡ drop i old → drop (i + 1) now ≡ drop (i + 1) old
+rest_same now old i rest = sym (tail_drop now i) ∙ ap (λ xs. drop 1 xs) rest ∙ tail_drop old i
+
+pub got_same : {X : Type 0} (now old : List X) (i : ℕ) → drop i now ≡ drop i old → slice_get old i ≡ slice_get now i
+got_same now old i rest = sym (slice_front old i) ∙ ap (λ xs. slice_get xs 0) (sym rest) ∙ slice_front now i
+
+pub end_same : (total : ℕ) (now old : List Field) (i : ℕ) → drop i now ≡ drop i old → slice_index_or (places_of now) (i + 1) total ≡ slice_index_or (places_of old) (i + 1) total
+end_same total now old i rest =
+    sym (dropped total now (i + 1)) ∙ ap (λ fields. end_before total (laid_of fields)) (rest_same now old i rest) ∙ dropped total old (i + 1)
 
 -- a field, and those behind it
 pub parts_next : (at total : ℕ) (fields : List Field) (i : ℕ) (field : Field) (end : ℕ) → i < length fields → field ≡ get_or fields i field → end ≡ slice_index_or (places_of fields) (i + 1) total
@@ -68,8 +89,8 @@ ends_within bytes fields i end begin ends_at =
     ]
 
 -- one more field is placed
-pub placed_next : (at total : ℕ) (fields : List Field) (i : ℕ) (field : Field) (end len : ℕ) (read : PlacedField) (before after : List PlacedField) → slice_get fields i ≡ Some field → end ≡ slice_index_or (places_of fields) (i + 1) total → len ≡ length (content_of (value_of field.value))
-    → read ≡ record { number = field.number; value = field.value; begins = at + (end - len) } → after ≡ before ++ read ∷ []
+pub placed_next : (at total : ℕ) (fields : List Field) (i : ℕ) (field : Field) (end len : ℕ) (read : Field) (before after : List Field) → slice_get fields i ≡ Some field → end ≡ slice_index_or (places_of fields) (i + 1) total → len ≡ length (content_of (value_of field.value))
+    → read ≡ record { number = field.number; place = at + (end - len); value = field.value } → after ≡ before ++ read ∷ []
     → parts_read before ++ parts_in at total (laid_of (drop i fields)) ≡ parts_in at total (laid_of fields)
     → parts_read after ++ parts_in at total (laid_of (drop (i + 1) fields)) ≡ parts_in at total (laid_of fields)
 placed_next at total fields i field end len read before after is ends_at counted made more so_far =

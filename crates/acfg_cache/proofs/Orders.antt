@@ -12,7 +12,7 @@ use Rattle.acfg_base.proofs.Rows.{AreInOrder-from_steps}
 use Rattle.acfg_decls.specs.declared.flags.Flag.{Flag}
 use Rattle.acfg_decls.specs.Flags.{AreFlags, IsLawful, full_name}
 use Rattle.acfg_cache.specs.declared.fault.CacheFault.{CacheFault}
-use Rattle.acfg_cache.specs.declared.parts.PlacedField.{PlacedField}
+use Rattle.acfg_wire.specs.declared.field.Field.{Field as PlacedField}
 use Rattle.acfg_cache.specs.Reading.{FirstFails, Holds, IfFault, Test, flag_at, flag_in, flag_tests, flags_tests, order_tests}
 use Rattle.acfg_cache.specs.Bodies.{Rise, part_read, parts_read}
 use Rattle.acfg_cache.proofs.Passed.{PassedIn, front_fails, if_weaker, in_behind, in_front, passed_next}

@@ -5,7 +5,7 @@ use Rattle.std.specs.Global.{Vec}
 use Rattle.std.proofs.lemmas.List.{get_or_default}
 use Rattle.std.proofs.lemmas.List.Elements.{filter_map-append}
 use Rattle.acfg_cache.specs.declared.leaves.Leaf.{Leaf as ReadLeaf}
-use Rattle.acfg_cache.specs.declared.parts.PlacedField.{PlacedField}
+use Rattle.acfg_wire.specs.declared.field.Field.{Field as PlacedField}
 use Rattle.acfg_cache.specs.Parts.{Part}
 use Rattle.acfg_cache.specs.declared.fault.CacheFault.{CacheFault}
 use Rattle.acfg_cache.specs.declared.table.Message.{Message}

@@ -6,7 +6,7 @@ use Rattle.acfg_wire.specs.Fields.{content_of, value_of}
 use Rattle.acfg_wire.specs.Outcome.{moved}
 use Rattle.acfg_cache.specs.declared.fault.CacheFault.{CacheFault}
 use Rattle.acfg_cache.specs.declared.fault.CacheFault.TheVariants.{Wire, OutOfMemory}
-use Rattle.acfg_cache.specs.declared.parts.PlacedField.{PlacedField}
+use Rattle.acfg_wire.specs.declared.field.Field.{Field as PlacedField}
 use Rattle.acfg_cache.specs.declared.leaves.Leaf.{Leaf as ReadLeaf}
 use Rattle.acfg_cache.specs.declared.leaves.Leaf.TheVariants as read
 use Rattle.acfg_cache.specs.declared.counting.Held.{Held as ReadHeld}
@@ -25,16 +25,16 @@ use Rattle.acfg_decls.specs.declared.flags.Flag.{Flag}
 use Rattle.acfg_decls.specs.Flags.{full_name}
 use Rattle.acfg_cache.specs.declared.conditions.Names.{Names}
 
--- a field as the code has it
+-- a field that was told its place, as the code has it
 abbrev pub part_read : PlacedField → Part
-part_read field = record { number = field.number; value = value_of field.value; begins = field.begins }
+part_read field = record { number = field.number; value = value_of field.value; begins = field.place }
 
 abbrev pub parts_read : List PlacedField → List Part
 parts_read fields = map part_read fields
 
 -- a field's bytes end at a place that can be told
 abbrev pub EndsWithin : PlacedField → Type 0
-EndsWithin field = field.begins + length (content_of (value_of field.value)) < 2 ^ 64
+EndsWithin field = field.place + length (content_of (value_of field.value)) < 2 ^ 64
 
 -- the place of a wire fault is within so many bytes
 abbrev pub IsBehind : WireFault → ℕ → Type 0

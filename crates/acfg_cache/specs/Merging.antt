@@ -1,5 +1,6 @@
 -- Lists of flags merged: their sorted union, or the first clash.
-use Rattle.std.specs.Prelude.{◌≡◌, ◌⊎◌, ℕ, ◌<◌, ◌≤◌, Bool, false, List, slice_get, Some, Contains}
+use Rattle.std.specs.Prelude.{◌≡◌, ◌⊎◌, ℕ, ◌<◌, ◌≤◌, Bool, false, List, map, slice_get, Some, Contains}
+use Rattle.std.specs.Borrow.{Bor}
 use Rattle.std.specs.declared.cmp.Ordering.TheVariants.{Less}
 use Rattle.std.specs.Ordering.{nat_cmp}
 use Rattle.std.specs.Cmp.Lexicographic.{slice_cmp}
@@ -7,6 +8,10 @@ use Rattle.acfg_decls.specs.declared.flags.Flag.{Flag}
 use Rattle.acfg_decls.specs.Flags.{AreFlags, full_name}
 use Rattle.acfg_cache.specs.declared.fault.MergeFault.{MergeFault}
 use Rattle.acfg_cache.specs.declared.fault.MergeFault.TheVariants.{Clash, OutOfMemory}
+
+-- flags that are lent one by one
+abbrev pub lent : List (Bor Flag) → List Flag
+lent flags = map (λ flag. flag.now) flags
 
 -- the list at this position has the flag
 pub record StandsIn (lists : List (List Flag)) (i : ℕ) (flag : Flag) : Type 0 where

@@ -2,6 +2,8 @@
 
 ghost use Rattle.std.specs.Prelude.{◌≡◌, IfOk, IfErr, OnOk, map};
 ghost use Rattle.std.specs.List.{AllByRecursion, list_all};
+ghost use Rattle.std.specs.Option.{SomeIff};
+ghost use Rattle.acfg_base.specs.Names.{IsContainer, IsPackage};
 ghost use Rattle.acfg_decls.specs.Flags.{IsLawful};
 ghost use Rattle.acfg_cache.specs.Reading.{FirstFails, Holds, IfFault, flag_of, has_fields, is_point, is_whole};
 ghost use Rattle.acfg_cache.specs.Reading.{made_tests, own_tests, point, purpose, purpose_in};
@@ -10,7 +12,7 @@ ghost use Rattle.acfg_cache.specs.Bodies.{AreNames, counted_read, joined_number,
 use crate::counting::Counted;
 use crate::fault::CacheFault;
 use crate::leaves::{Leaf, has_number, is_true, number, number_behind, text, text_or_none, texts};
-use acfg_base::{ContainerName, Name, PackageName, Sequence, Text};
+use acfg_base::{ContainerName, Name, OutOfMemory, PackageName, Sequence, Text};
 use acfg_decls::{Flag, Point, Purpose};
 use std::alloc::{AllocError, Global};
 
@@ -23,14 +25,19 @@ pub struct Names {
     pub container: ContainerName,
 }
 
-/// The flag of the fields that count, at this position of the cache.
-pub fn make_flag(alloc: Global, counted: &Counted<'_>, index: usize) -> Result<Flag, CacheFault>
+/// The flag of the fields that count, at this position of the cache, behind the flag that is the last so far.
+pub fn make_flag(
+    alloc: Global,
+    counted: &Counted<'_>,
+    index: usize,
+    last: Option<&Flag>,
+) -> Result<Flag, CacheFault>
     ensures flag { IfOk result (λ flag. flag ≡ flag_of (counted_read counted.now)) }
     ensures lawful { IfOk result IsLawful }
     ensures passed { OnOk result (AllByRecursion Holds (made_tests index (counted_read counted.now))) }
     ensures err { IfErr result (λ fault. IfFault fault (FirstFails (made_tests index (counted_read counted.now)))) }
 {
-    let names = test_whole(alloc, counted, index)?;
+    let names = test_whole(alloc, counted, index, last)?;
     Ok(build_flag(alloc, counted, names)?)
 }
 
@@ -57,27 +64,37 @@ fn build_flag(alloc: Global, counted: &Counted<'_>, names: Names) -> Result<Flag
 }
 
 // Tests what a flag lacks, its names and its permission, and gives the names.
-fn test_whole(alloc: Global, counted: &Counted<'_>, index: usize) -> Result<Names, CacheFault>
+fn test_whole(
+    alloc: Global,
+    counted: &Counted<'_>,
+    index: usize,
+    last: Option<&Flag>,
+) -> Result<Names, CacheFault>
     ensures names { IfOk result (λ names. AreNames names (flag_of (counted_read counted.now))) }
     ensures passed { OnOk result (AllByRecursion Holds (made_tests index (counted_read counted.now))) }
     ensures err { IfErr result (λ fault. IfFault fault (FirstFails (made_tests index (counted_read counted.now)))) }
 {
     if is_whole(counted) {
-        test_flag(alloc, counted, index)
+        test_flag(alloc, counted, index, last)
     } else {
         Err(CacheFault::Missing(index))
     }
 }
 
 // Tests a flag's names and its permission, and gives the names.
-fn test_flag(alloc: Global, counted: &Counted<'_>, index: usize) -> Result<Names, CacheFault>
+fn test_flag(
+    alloc: Global,
+    counted: &Counted<'_>,
+    index: usize,
+    last: Option<&Flag>,
+) -> Result<Names, CacheFault>
     ensures names { IfOk result (λ names. AreNames names (flag_of (counted_read counted.now))) }
     ensures passed { OnOk result (AllByRecursion Holds (own_tests index (flag_of (counted_read counted.now)))) }
     ensures err { IfErr result (λ fault. IfFault fault
         (FirstFails (own_tests index (flag_of (counted_read counted.now))))) }
 {
     let said = counted.leaves.as_slice();
-    let Some(package) = PackageName::parse(alloc, text_or_none(1, said))? else {
+    let Some(package) = package_of(alloc, text_or_none(1, said), last)? else {
         return Err(CacheFault::BadName(index));
     };
     let Some(name) = Name::parse(alloc, text_or_none(2, said))? else {
@@ -86,7 +103,7 @@ fn test_flag(alloc: Global, counted: &Counted<'_>, index: usize) -> Result<Names
     let Some(namespace) = Name::parse(alloc, text_or_none(3, said))? else {
         return Err(CacheFault::BadName(index));
     };
-    let Some(container) = ContainerName::parse(alloc, text_or_none(11, said))? else {
+    let Some(container) = container_of(alloc, text_or_none(11, said), last)? else {
         return Err(CacheFault::BadName(index));
     };
     if is_true(9, said) && has_number(7, 2, said) {
@@ -98,6 +115,46 @@ fn test_flag(alloc: Global, counted: &Counted<'_>, index: usize) -> Result<Names
         namespace,
         container,
     })
+}
+
+// The package that a text names, where it names one. Most are that of the last flag, and it isn't tested again.
+fn package_of(
+    alloc: Global,
+    text: &str,
+    last: Option<&Flag>,
+) -> Result<Option<PackageName>, OutOfMemory>
+    ensures { IfOk result (λ name. SomeIff name (IsPackage text.now) text.now) }
+{
+    match last {
+        Some(last) => {
+            if last.package.as_str() == text {
+                Ok(Some(last.package.clone()?))
+            } else {
+                PackageName::parse(alloc, text)
+            }
+        }
+        None => PackageName::parse(alloc, text),
+    }
+}
+
+// The container that a text names, where it names one. Most are that of the last flag.
+fn container_of(
+    alloc: Global,
+    text: &str,
+    last: Option<&Flag>,
+) -> Result<Option<ContainerName>, OutOfMemory>
+    ensures { IfOk result (λ name. SomeIff name (IsContainer text.now) text.now) }
+{
+    match last {
+        Some(last) => {
+            if last.container.as_str() == text {
+                Ok(Some(last.container.clone()?))
+            } else {
+                ContainerName::parse(alloc, text)
+            }
+        }
+        None => ContainerName::parse(alloc, text),
+    }
 }
 
 // Whether all that a flag requires is there.

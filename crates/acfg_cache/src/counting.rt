@@ -198,18 +198,18 @@ fn add_held<'a>(
     index: usize,
     counted: &mut Counted<'a>,
 ) -> Result<(), CacheFault>
-    requires { HeldEndsWithin field.now.begins (held_read held) }
+    requires { HeldEndsWithin field.now.place (held_read held) }
     ensures counted { OnOk result (counted_read counted.new
-        ≡ behind (counted_read counted.old) (counting_held field.now.number field.now.begins (held_read held.entry))) }
-    ensures passed { OnOk result (AllByRecursion Holds (field_tests index field.now.begins (held_read held.entry))) }
+        ≡ behind (counted_read counted.old) (counting_held field.now.number field.now.place (held_read held.entry))) }
+    ensures passed { OnOk result (AllByRecursion Holds (field_tests index field.now.place (held_read held.entry))) }
     ensures err { IfErr result (λ fault. IfFault fault
-        (FirstFails (field_tests index field.now.begins (held_read held.entry)))) }
+        (FirstFails (field_tests index field.now.place (held_read held.entry)))) }
 {
     match held {
         Held::Text(_) => add_leaf(field.number, held, index, &mut counted.leaves),
         Held::Number(_, _) => add_leaf(field.number, held, index, &mut counted.leaves),
         Held::Within(message, content) => {
-            add_message(alloc, message, content, field.begins, index, counted)
+            add_message(alloc, message, content, field.place, index, counted)
         }
     }
 }
@@ -225,9 +225,9 @@ fn count_field<'a>(
     ensures counted { OnOk result (counted_read counted.new
         ≡ behind (counted_read counted.old) (counting (part_read field.now ∷ []))) }
     ensures passed { OnOk result (AllByRecursion Holds
-        (if_held (field_tests index field.now.begins) (held ParsedFlag (part_read field.now)))) }
+        (if_held (field_tests index field.now.place) (held ParsedFlag (part_read field.now)))) }
     ensures err { IfErr result (λ fault. IfFault fault
-        (FirstFails (if_held (field_tests index field.now.begins) (held ParsedFlag (part_read field.now))))) }
+        (FirstFails (if_held (field_tests index field.now.place) (held ParsedFlag (part_read field.now))))) }
 {
     match find_held(Message::ParsedFlag, field) {
         Some(held) => add_held(alloc, field, held, index, counted),

@@ -68,7 +68,7 @@ fn add_field(
         (FirstFails (flags_tests flags.old.items (cons_option (flag_at (part_read field.now)) [])))) }
 {
     match flag_content(field) {
-        Some(content) => add_flag(alloc, content, field.begins, flags),
+        Some(content) => add_flag(alloc, content, field.place, flags),
         None => Ok(()),
     }
 }
@@ -88,7 +88,7 @@ fn add_flag(
     ensures err { IfErr result (λ fault. IfFault fault
         (FirstFails (flags_tests flags.old.items ((begins, content.now) ∷ [])))) }
 {
-    let flag = read_flag(alloc, content, begins, flags.len())?;
+    let flag = read_flag(alloc, content, begins, flags.len(), flags.last())?;
     test_order(flags, &flag)?;
     flags.push(flag)?;
     Ok(())
@@ -96,7 +96,7 @@ fn add_flag(
 
 // The bytes of a flag, where a field of the cache holds one.
 fn flag_content<'a>(field: &PlacedField<'a>) -> Option<&'a [u8]>
-    ensures { option_map (message_at field.now.begins) result ≡ flag_at (part_read field.now) }
+    ensures { option_map (message_at field.now.place) result ≡ flag_at (part_read field.now) }
 {
     match field.number {
         1 => match field.value {
@@ -107,8 +107,15 @@ fn flag_content<'a>(field: &PlacedField<'a>) -> Option<&'a [u8]>
     }
 }
 
-// Reads the flag at this position of the cache, whose bytes begin at this place.
-fn read_flag(alloc: Global, content: &[u8], begins: usize, index: usize) -> Result<Flag, CacheFault>
+// Reads the flag at this position of the cache, whose bytes begin at this place, behind the flag that is the last so
+// far.
+fn read_flag(
+    alloc: Global,
+    content: &[u8],
+    begins: usize,
+    index: usize,
+    last: Option<&Flag>,
+) -> Result<Flag, CacheFault>
     requires { begins + length content.now < 2 ^ 64 }
     ensures flag { IfOk result (λ flag. flag ≡ flag_in (begins, content.now)) }
     ensures lawful { IfOk result IsLawful }
@@ -117,7 +124,7 @@ fn read_flag(alloc: Global, content: &[u8], begins: usize, index: usize) -> Resu
 {
     let fields = open(alloc, content, begins)?;
     let counted = count_fields(alloc, &fields, index)?;
-    make_flag(alloc, &counted, index)
+    make_flag(alloc, &counted, index, last)
 }
 
 // Tests that a flag stands behind those before it.

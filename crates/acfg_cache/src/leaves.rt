@@ -41,13 +41,15 @@ fn number_at(field: u64, leaf: Leaf<'_>) -> Option<u64>
 pub fn text<'a>(field: u64, leaves: &[Leaf<'a>]) -> Option<&'a str>
     ensures { option_copied result ≡ text field (leaves_read leaves.now) }
 {
-    let mut last = None;
-    for leaf in leaves {
-        if let Some(text) = text_at(field, *leaf) {
-            last = Some(text);
+    let mut i = leaves.len();
+    while i > 0 {
+        i -= 1;
+        match text_at(field, leaves[i]) {
+            Some(text) => return Some(text),
+            None => {}
         }
     }
-    last
+    None
 }
 
 /// The last number of a field.
@@ -61,13 +63,15 @@ pub fn number(field: u64, leaves: &[Leaf<'_>]) -> Option<u64>
 pub fn number_behind(field: u64, leaves: &[Leaf<'_>], before: Option<u64>) -> Option<u64>
     ensures { result ≡ last_or before (filter_map (number_at field) (leaves_read leaves.now)) }
 {
-    let mut last = before;
-    for leaf in leaves {
-        if let Some(number) = number_at(field, *leaf) {
-            last = Some(number);
+    let mut i = leaves.len();
+    while i > 0 {
+        i -= 1;
+        match number_at(field, leaves[i]) {
+            Some(number) => return Some(number),
+            None => {}
         }
     }
-    last
+    before
 }
 
 /// All texts of a field, in their order.

@@ -20,4 +20,4 @@ pub use decoding::decode;
 pub use encoding::encode;
 pub use fault::{CacheFault, MergeFault};
 pub use laws::{one_merging, one_reading, written_is_read};
-pub use merging::merge;
+pub use merging::{join, merge};

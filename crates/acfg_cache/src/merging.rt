@@ -7,7 +7,7 @@ ghost use Rattle.std.specs.declared.cmp.Ordering.TheVariants.{Equal};
 ghost use Rattle.std.specs.Ordering.{nat_cmp};
 ghost use Rattle.std.specs.Cmp.Lexicographic.{slice_cmp};
 ghost use Rattle.acfg_decls.specs.Flags.{AreFlags, IsLawful, full_name};
-ghost use Rattle.acfg_cache.specs.Merging.{FirstClashIn, IfClash, IsFirstClash, IsMerged};
+ghost use Rattle.acfg_cache.specs.Merging.{FirstClashIn, IfClash, IsFirstClash, IsMerged, lent};
 ghost use Rattle.acfg_cache.specs.Rows.{Adds, Ascend, InRows, IsClashOf, IsFound, IsTaken, key_order};
 ghost use Rattle.acfg_cache.specs.Rows.{row_key, row_order, row_read, rows_of, rows_read};
 
@@ -27,10 +27,32 @@ pub fn merge(alloc: Global, lists: &[Flags], dedup: bool) -> Result<Flags, Merge
     ensures ok { IfOk result (λ flags. IsMerged lists.now dedup flags) }
     ensures err { IfErr result (λ fault. IfClash fault (IsFirstClash lists.now dedup)) }
 {
+    let joined = join(alloc, lists, dedup)?;
+    let flags = copy_flags(alloc, &joined)?;
+    Ok(Flags::from_sorted(flags))
+}
+
+/// As `merge`, but for that it copies no flag: those of the lists are lent.
+///
+/// # Errors
+/// As `merge`.
+pub fn join<'a>(alloc: Global, lists: &'a [Flags], dedup: bool) -> Result<Vec<&'a Flag>, MergeFault>
+    ensures ok { IfOk result (λ flags. IsMerged lists.now dedup (lent flags.items)) }
+    ensures err { IfErr result (λ fault. IfClash fault (IsFirstClash lists.now dedup)) }
+{
     let mut rows = list_rows(alloc, lists)?;
     sort_rows(&mut rows)?;
-    let flags = take_rows(alloc, &rows, dedup)?;
-    Ok(Flags::from_sorted(flags))
+    take_rows(alloc, &rows, dedup)
+}
+
+fn copy_flags(alloc: Global, flags: &[&Flag]) -> Result<Vec<Flag>, AllocError>
+    ensures { IfOk result (λ copies. copies.items ≡ lent flags.now) }
+{
+    let mut copies = Vec::with_capacity(alloc, flags.len())?;
+    for flag in flags {
+        copies.push((*flag).clone()?)?;
+    }
+    Ok(copies)
 }
 
 /// A flag, and the position of its list.
@@ -84,13 +106,13 @@ fn add_rows<'a>(list: usize, flags: &'a [Flag], rows: &mut Vec<Row<'a>>) -> Resu
 }
 
 // The flags of rows in order, each once, or the first clash.
-fn take_rows(alloc: Global, rows: &[Row<'_>], dedup: bool) -> Result<Vec<Flag>, MergeFault>
+fn take_rows<'a>(alloc: Global, rows: &[Row<'a>], dedup: bool) -> Result<Vec<&'a Flag>, MergeFault>
     requires ascend { Ascend (rows_read rows.now) }
     requires lawful { All (λ row. IsLawful row.1) (rows_read rows.now) }
-    ensures ok { IfOk result (λ flags. IsTaken dedup (rows_read rows.now) flags.items) }
+    ensures ok { IfOk result (λ flags. IsTaken dedup (rows_read rows.now) (lent flags.items)) }
     ensures err { IfErr result (λ fault. IfClash fault (FirstClashIn (InRows (rows_read rows.now)) dedup)) }
 {
-    let mut flags = Vec::new(alloc);
+    let mut flags = Vec::with_capacity(alloc, rows.len())?;
     for row in rows {
         add_row(alloc, row, dedup, &mut flags)?;
     }
@@ -98,18 +120,18 @@ fn take_rows(alloc: Global, rows: &[Row<'_>], dedup: bool) -> Result<Vec<Flag>, 
 }
 
 // Takes the flag of a row, where it isn't the last one that was taken.
-fn add_row(
+fn add_row<'a>(
     alloc: Global,
-    row: &Row<'_>,
+    row: &Row<'a>,
     dedup: bool,
-    flags: &mut Vec<Flag>,
+    flags: &mut Vec<&'a Flag>,
 ) -> Result<(), MergeFault>
-    ensures ok { OnOk result (Adds dedup row.now.flag.now flags.old.items flags.new.items) }
-    ensures err { IfErr result (λ fault. IfClash fault (IsClashOf dedup (row_read row.now) flags.old.items)) }
+    ensures ok { OnOk result (Adds dedup row.now.flag.now (lent flags.old.items) (lent flags.new.items)) }
+    ensures err { IfErr result (λ fault. IfClash fault (IsClashOf dedup (row_read row.now) (lent flags.old.items))) }
 {
     match find_clash(flags, row.flag, dedup) {
         Found::New => {
-            flags.push(row.flag.clone()?)?;
+            flags.push(row.flag)?;
             Ok(())
         }
         Found::Same => Ok(()),
@@ -126,11 +148,11 @@ pub enum Found {
     Clash,
 }
 
-fn find_clash(taken: &[Flag], flag: &Flag, dedup: bool) -> Found
-    ensures { IsFound result dedup (last_or None taken.now) flag.now }
+fn find_clash(taken: &[&Flag], flag: &Flag, dedup: bool) -> Found
+    ensures { IsFound result dedup (last_or None (lent taken.now)) flag.now }
 {
     match taken.last() {
-        Some(last) => compare_last(last, flag, dedup),
+        Some(last) => compare_last(*last, flag, dedup),
         None => Found::New,
     }
 }

@@ -1,7 +1,7 @@
 //! The fields of a message, each with the place in the whole cache at which its content begins.
 
 ghost use Rattle.std.specs.Prelude.{◌≡◌, ◌+◌, ◌<◌, ◌^◌, Ok, Some, length, All, IfOk, IfErr};
-ghost use Rattle.std.specs.Prelude.{slice_get, slice_index_or};
+ghost use Rattle.std.specs.Prelude.{slice_get, slice_index_or, slice_set};
 ghost use Rattle.acfg_wire.specs.Fields.{BeginAt, ValuesLieIn, content_of, fields_of, places_of, value_of};
 ghost use Rattle.acfg_wire.specs.Laid.{laid_of};
 ghost use Rattle.acfg_cache.specs.Parts.{opened, parts_in};
@@ -10,15 +10,10 @@ ghost use Rattle.acfg_cache.specs.Bodies.{EndsWithin, IsBehind, ReadFails, fault
 
 use crate::fault::CacheFault;
 use acfg_wire::{Field, FieldValue, WireFault, read_fields};
-use std::alloc::{AllocError, Global};
+use std::alloc::Global;
 
-/// A field of a message, and where its bytes begin in the whole cache, where it has bytes of its own.
-#[derive(Clone, Copy, Debug)]
-pub struct PlacedField<'a> {
-    pub number: u64,
-    pub value: FieldValue<'a>,
-    pub begins: usize,
-}
+/// A field of a message. Its place is where its content begins in the whole cache, and not where its key does.
+pub type PlacedField<'a> = Field<'a>;
 
 /// The fields of a message that begins at this place of the whole cache.
 pub fn open(alloc: Global, bytes: &[u8], at: usize) -> Result<Vec<PlacedField<'_>>, CacheFault>
@@ -28,36 +23,39 @@ pub fn open(alloc: Global, bytes: &[u8], at: usize) -> Result<Vec<PlacedField<'_
     ensures err { IfErr result (λ fault. IfFault fault (ReadFails (opened at bytes.now))) }
 {
     match read_fields(alloc, bytes) {
-        Ok(fields) => Ok(place_fields(alloc, bytes, &fields, at)?),
+        Ok(mut fields) => {
+            place_fields(bytes, &mut fields, at);
+            Ok(fields)
+        }
         Err(fault) => Err(move_fault(fault, at, bytes.len())),
     }
 }
 
-// The fields of a message, placed in the cache.
-fn place_fields<'a>(
-    alloc: Global,
-    bytes: &[u8],
-    fields: &[Field<'a>],
-    at: usize,
-) -> Result<Vec<PlacedField<'a>>, AllocError>
+// Tells the fields of a message their places in the cache.
+fn place_fields(bytes: &[u8], fields: &mut [Field<'_>], at: usize)
     requires room { at + length bytes.now < 2 ^ 64 }
-    requires begin { BeginAt bytes.now (fields_of fields.now) (places_of fields.now) }
-    requires lie { ValuesLieIn bytes.now fields.now }
-    ensures parts { IfOk result (λ parts. parts_read parts.items
-        ≡ parts_in at (length bytes.now) (laid_of fields.now)) }
-    ensures within { IfOk result (λ parts. All EndsWithin parts.items) }
+    requires begin { BeginAt bytes.now (fields_of fields.old) (places_of fields.old) }
+    requires lie { ValuesLieIn bytes.now fields.old }
+    ensures parts { parts_read fields.new ≡ parts_in at (length bytes.now) (laid_of fields.old) }
+    ensures within { All EndsWithin fields.new }
 {
-    let mut parts = Vec::with_capacity(alloc, fields.len())?;
     for i in 0..fields.len() {
         let field = field_at(fields, i);
         let len = content_len(field.value);
-        parts.push(PlacedField {
+        let placed = Field {
             number: field.number,
+            place: at + (end_at(fields, i, bytes.len()) - len),
             value: field.value,
-            begins: at + (end_at(fields, i, bytes.len()) - len),
-        })?;
+        };
+        put(fields, i, placed);
     }
-    Ok(parts)
+}
+
+fn put<'a>(fields: &mut [Field<'a>], i: usize, field: Field<'a>)
+    requires { i < length fields.old }
+    ensures { fields.new ≡ slice_set fields.old i field.entry }
+{
+    fields[i] = field;
 }
 
 fn field_at<'a>(fields: &[Field<'a>], i: usize) -> Field<'a>

@@ -3,6 +3,7 @@ mod Blank
 mod Distinct
 pub mod Exists
 pub mod Few
+mod FieldsRead
 mod Numbered
 mod Fronts
 mod Moved
@@ -10,7 +11,6 @@ mod Named
 pub mod OneAnswer
 mod System
 mod Tested
-mod Turned
 mod Twins
 pub mod Unique
 mod Valued

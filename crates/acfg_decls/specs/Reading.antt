@@ -1,5 +1,5 @@
 -- What files of declarations and values declare and set, and their first fault (AOSP aconfig's messages).
-use Rattle.std.specs.Prelude.{◌≡◌, ◌⊎◌, ℕ, ◌==◌, List, [], ◌∷◌, filter_map, Option, None, Some, unwrap_or}
+use Rattle.std.specs.Prelude.{◌≡◌, ◌⊎◌, ℕ, ◌==◌, List, [], ◌∷◌, ◌++◌, filter_map, Option, None, Some, unwrap_or}
 use Rattle.std.specs.Prelude.{if◌then◌else◌, codes}
 use Rattle.std.specs.List.{flat_map}
 use Rattle.std.specs.Option.{option_and_then}
@@ -10,6 +10,7 @@ use Rattle.acfg_text.specs.declared.tree.Value.{Value}
 use Rattle.acfg_text.specs.declared.tree.Value.TheVariants as value
 use Rattle.acfg_text.specs.declared.fault.TextWhat.{TextWhat}
 use Rattle.acfg_text.specs.Spells.{Spells, FirstFault}
+use Rattle.acfg_text.specs.Progress.{HasRead, Rest}
 use Rattle.acfg_decls.specs.declared.flags.Purpose.{Purpose}
 use Rattle.acfg_decls.specs.declared.flags.Purpose.TheVariants.{Unspecified, Feature, Bugfix}
 use Rattle.acfg_decls.specs.declared.declared.Placed.{Placed}
@@ -27,7 +28,7 @@ use Rattle.acfg_decls.specs.declared.messages.Message.{Message}
 use Rattle.acfg_decls.specs.declared.messages.Message.TheVariants as message
 use Rattle.acfg_decls.specs.declared.messages.Words.{Words}
 use Rattle.acfg_decls.specs.declared.messages.Words.TheVariants.{Booleans, Purposes, States, Permissions}
-use Rattle.acfg_decls.specs.Walk.{depth, enum_value, first, walk}
+use Rattle.acfg_decls.specs.Walk.{depth, enum_value, first, item_faults, items_faults, walk}
 
 -- ## Fields by their names
 
@@ -90,19 +91,25 @@ abbrev pub flag_at : Value → Option DeclaredFlag
 flag_at (value.Message place tree) = Some (declared_flag place (out-Tree tree).items)
 flag_at _ = None
 
--- what fields of these values declare; a word of private functions
-abbrev pub flags_at : List (List Value) → List DeclaredFlag
-flags_at fields = flat_map (λ values. filter_map flag_at values) fields
+-- the fields that aren't flags; a word of private functions
+abbrev pub others_in : List Item → List Item
+others_in items =
+    flat_map (λ item. if bytes_eq (out-Item item).name (codes "flag") then [] else item ∷ []) items
+
+-- a file of these declarations, whose other fields these are
+abbrev pub declared_by : List ℕ → List Item → List DeclaredFlag → ℕ → DeclarationsFile
+declared_by source items flags end = record {
+  source = source;
+  «package» = the_text (codes "package") items;
+  container = text_in (codes "container") items;
+  flags = flags;
+  end = end;
+}
 
 -- what a `flag_declarations` declares
 abbrev pub declarations_in : List ℕ → Tree → DeclarationsFile
-declarations_in source tree = record {
-  source = source;
-  «package» = the_text (codes "package") (out-Tree tree).items;
-  container = text_in (codes "container") (out-Tree tree).items;
-  flags = all_in flag_at (codes "flag") (out-Tree tree).items;
-  end = (out-Tree tree).end;
-}
+declarations_in source tree =
+    declared_by source (out-Tree tree).items (all_in flag_at (codes "flag") (out-Tree tree).items) (out-Tree tree).end
 
 -- what a `flag_value` sets, at its opening bracket
 abbrev pub set_value : ℕ → List Item → FlagValue
@@ -144,6 +151,15 @@ pub record FailsText (text : List ℕ) (place : ℕ) (fault : DeclWhat) : Type 0
 -- the first fault of a file that has to be this message
 abbrev pub Refuses : Message → List ℕ → ℕ → DeclWhat → Type 0
 Refuses message text place fault = FailsText text place fault ⊎ FailsWalk message text place fault
+
+-- What is told at a fault of a field, of fields that were read before it without one, to which those kept are as good:
+-- what is left of the text has its fault, or else the field.
+abbrev pub FailsAt : Message → List Item → Item → Rest → ℕ → DeclWhat → Type 0
+FailsAt message earlier field rest place fault =
+    (text : List ℕ) (items : List Item) → HasRead text (items ++ field ∷ []) rest
+    → items_faults (walk 2) message [] items ≡ []
+    → item_faults (walk 2) message items field ≡ item_faults (walk 2) message earlier field
+    → Refuses message text place fault
 
 -- the text declares this, under the name of its source
 abbrev pub Declares : List ℕ → List ℕ → DeclarationsFile → Type 0

@@ -112,13 +112,14 @@ field_faults walk earlier item field =
     ++ ((if list_all (is_of field.form) it.values then [] else (it.place, what.BadScalar) ∷ [])
     ++ flat_map (inside walk field.form) it.values)
 
--- a field, which the table has or lacks
+-- a field that the table has so, or lacks
+abbrev pub known_faults : (Message → Tree → List Fault) → List Item → Item → Option Field → List Fault
+known_faults walk earlier item None = ((out-Item item).place, what.UnknownField) ∷ []
+known_faults walk earlier item (Some field) = field_faults walk earlier item field
+
+-- a field
 abbrev pub item_faults : (Message → Tree → List Fault) → Message → List Item → Item → List Fault
-item_faults walk message earlier item = by_field (field_of message (out-Item item).name)
-  where
-    by_field : Option Field → List Fault
-    by_field None = ((out-Item item).place, what.UnknownField) ∷ []
-    by_field (Some field) = field_faults walk earlier item field
+item_faults walk message earlier item = known_faults walk earlier item (field_of message (out-Item item).name)
 
 -- fields one after another, behind others
 abbrev pub items_faults : (Message → Tree → List Fault) → Message → List Item → List Item → List Fault

@@ -1,45 +1,70 @@
-//! Files of declarations and values, read of their trees.
+//! What the fields of declarations and values files declare and set.
 
-ghost use Rattle.std.specs.Prelude.{◌≡◌, [], ◌∷◌, ◌++◌, codes, filter_map, reverse, IfOk, OnOk};
+ghost use Rattle.std.specs.Prelude.{◌≡◌, [], ◌∷◌, ◌++◌, codes, filter_map, IfOk, OnOk};
 ghost use Rattle.std.specs.Option.{option_copied, option_and_then};
-ghost use Rattle.acfg_decls.specs.Reading.{all_in, declarations_in, declared_flag, flag_at, metadata_purpose};
-ghost use Rattle.acfg_decls.specs.Reading.{number_in, set_value, text_in, text_of, the_text, value_at, value_in};
-ghost use Rattle.acfg_decls.specs.Reading.{values_in, flags_at};
+ghost use Rattle.acfg_decls.specs.Reading.{all_in, declared_by, declared_flag, flag_at, metadata_purpose};
+ghost use Rattle.acfg_decls.specs.Reading.{number_in, others_in, set_value, text_in, text_of, the_text, value_at};
+ghost use Rattle.acfg_decls.specs.Reading.{value_in};
 
-use crate::declared::{DeclarationsFile, DeclaredFlag, FlagValue, Placed, ValuesFile};
+use crate::declared::{DeclarationsFile, DeclaredFlag, FlagValue, Placed};
 use crate::flags::Purpose;
 use crate::messages::Words;
 use crate::scalars::enum_number;
 use acfg_base::{Sequence, Text};
-use acfg_text::{Item, Tree, Value};
+use acfg_text::{Item, Value};
 use sqlite_items::Items;
 use std::alloc::{AllocError, Global};
 
-/// What a declarations file has, of a tree in which the walk finds no fault.
+/// What has been read of a declarations file, in whose fields the walk has found no fault.
+#[derive(Debug, Drop)]
+pub struct Declaring {
+    /// The fields that aren't flags, in the order of the file.
+    pub others: Items<Item>,
+    /// In the order of the file.
+    pub flags: Sequence<DeclaredFlag>,
+}
+
+impl Declaring {
+    /// Nothing yet, which takes no memory.
+    pub fn new(alloc: Global) -> Declaring
+        ensures { result ≡ record { others = []; flags = [] } }
+    {
+        Declaring {
+            others: Items::new(alloc),
+            flags: Sequence::new(alloc),
+        }
+    }
+}
+
+/// Keeps what a field declares. Of a flag's field nothing else is kept, so that no file's tree stands whole.
+pub fn keep_field(alloc: Global, field: Item, kept: &mut Declaring) -> Result<(), AllocError>
+    ensures others { OnOk result (kept.new.others ≡ kept.old.others ++ others_in (field ∷ [])) }
+    ensures flags { OnOk result (kept.new.flags ≡ kept.old.flags ++ all_in flag_at (codes "flag") (field ∷ [])) }
+{
+    if field.name.as_str() == "flag" {
+        add_flags(alloc, field.values.as_slice(), &mut kept.flags)?;
+    } else {
+        kept.others.push(field)?;
+    }
+    Ok(())
+}
+
+/// What a declarations file has, of what was read of it to its end.
 pub fn declarations_of(
     alloc: Global,
     source: &str,
-    tree: Tree,
+    kept: Declaring,
+    end: usize,
 ) -> Result<DeclarationsFile, AllocError>
-    ensures { IfOk result (λ file. file ≡ declarations_in source.now tree) }
+    ensures { IfOk result (λ file. file ≡ declared_by source.now kept.others kept.flags end) }
 {
-    let Tree { items, end } = tree;
+    let Declaring { others, flags } = kept;
     Ok(DeclarationsFile {
         source: Text::copy(alloc, source)?,
-        package: the_text(alloc, "package", items.as_slice())?,
-        container: text_in("container", items.as_slice())?,
-        flags: flags_in(alloc, items)?,
+        package: the_text(alloc, "package", others.as_slice())?,
+        container: text_in("container", others.as_slice())?,
+        flags,
         end,
-    })
-}
-
-/// What a values file has, of a tree in which the walk finds no fault.
-pub fn values_of(alloc: Global, source: &str, tree: &Tree) -> Result<ValuesFile, AllocError>
-    ensures { IfOk result (λ file. file ≡ values_in source.now tree.now) }
-{
-    Ok(ValuesFile {
-        source: Text::copy(alloc, source)?,
-        values: set_in(alloc, tree.items.as_slice())?,
     })
 }
 
@@ -116,40 +141,6 @@ fn add_texts(values: &[Value], texts: &mut Sequence<Text>) -> Result<(), AllocEr
     Ok(())
 }
 
-// The flags of all fields. A field goes as soon as it is read, so that flags and tree never stand side by side.
-fn flags_in(alloc: Global, items: Items<Item>) -> Result<Sequence<DeclaredFlag>, AllocError>
-    ensures { IfOk result (λ flags. flags ≡ all_in flag_at (codes "flag") items) }
-{
-    let mut fields = fields_back(alloc, items)?;
-    let mut flags = Sequence::from_vec(Vec::with_capacity(alloc, fields.len())?);
-    while let Some(values) = fields.pop() {
-        add_flags(alloc, values.as_slice(), &mut flags)?;
-    }
-    Ok(flags)
-}
-
-// The values of the fields that are flags, from the last field to the first.
-fn fields_back(alloc: Global, mut items: Items<Item>) -> Result<Items<Items<Value>>, AllocError>
-    ensures { IfOk result (λ fields. flags_at (reverse fields) ≡ all_in flag_at (codes "flag") items) }
-{
-    let mut fields = Items::from_vec(Vec::with_capacity(alloc, items.len())?);
-    while let Some(item) = items.pop() {
-        keep_flag(item, &mut fields)?;
-    }
-    Ok(fields)
-}
-
-// Keeps the values of a field that is a flag.
-fn keep_flag(item: Item, fields: &mut Items<Items<Value>>) -> Result<(), AllocError>
-    ensures { OnOk result (flags_at (reverse fields.new)
-        ≡ all_in flag_at (codes "flag") (item ∷ []) ++ flags_at (reverse fields.old)) }
-{
-    if item.name.as_str() == "flag" {
-        fields.push(item.values)?;
-    }
-    Ok(())
-}
-
 fn add_flags(
     alloc: Global,
     values: &[Value],
@@ -200,16 +191,18 @@ fn purpose_in(items: &[Item]) -> Option<Purpose>
     }
 }
 
-fn set_in(alloc: Global, items: &[Item]) -> Result<Sequence<FlagValue>, AllocError>
-    ensures { IfOk result (λ values. values ≡ all_in value_at (codes "flag_value") items.now) }
+/// Keeps the values that a field sets.
+pub fn keep_value(
+    alloc: Global,
+    field: Item,
+    values: &mut Sequence<FlagValue>,
+) -> Result<(), AllocError>
+    ensures { OnOk result (values.new ≡ values.old ++ all_in value_at (codes "flag_value") (field ∷ [])) }
 {
-    let mut values = Sequence::from_vec(Vec::with_capacity(alloc, items.len())?);
-    for item in items {
-        if item.name.as_str() == "flag_value" {
-            add_set(alloc, item.values.as_slice(), &mut values)?;
-        }
+    if field.name.as_str() == "flag_value" {
+        add_set(alloc, field.values.as_slice(), values)?;
     }
-    Ok(values)
+    Ok(())
 }
 
 fn add_set(alloc: Global, values: &[Value], set: &mut Sequence<FlagValue>) -> Result<(), AllocError>

@@ -11,9 +11,9 @@ use crate::messages::{Field, Form, Message, Often, find_field};
 use crate::scalars::enum_number;
 use acfg_text::{Item, Tree, Value};
 
-/// The first fault of a message and of the messages in it, so many deep: its byte place, and what is wrong.
+// The first fault of a message and of the messages in it, so many deep: its byte place, and what is wrong.
 #[cycle(walking)]
-pub fn first_fault(depth: usize, message: Message, tree: &Tree) -> Option<(usize, DeclWhat)>
+fn first_fault(depth: usize, message: Message, tree: &Tree) -> Option<(usize, DeclWhat)>
     ensures { result ≡ first (walk depth message tree.now) }
 {
     if depth == 0 {
@@ -32,9 +32,9 @@ pub fn first_fault(depth: usize, message: Message, tree: &Tree) -> Option<(usize
     }
 }
 
-// The first fault of a field behind others, and of the messages in it.
+/// The first fault of a field behind others, and of the messages in it.
 #[cycle(walking)]
-fn item_fault(
+pub fn item_fault(
     depth: usize,
     message: Message,
     earlier: &[Item],
@@ -113,8 +113,8 @@ fn is_of(form: Form, value: &Value) -> bool
     }
 }
 
-// Whether each field that a message has to have stands among these.
-fn is_whole(message: Message, items: &[Item]) -> bool
+/// Whether each field that a message has to have stands among these.
+pub fn is_whole(message: Message, items: &[Item]) -> bool
     ensures { result ≡ is_whole message items.now }
 {
     match message {

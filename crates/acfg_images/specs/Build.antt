@@ -1,5 +1,6 @@
 -- What building an image gives: the image of the flags of caches, or why there is none.
 use Rattle.std.specs.Prelude.{◌≡◌, ◌⊎◌, ℕ, ◌-◌, ◌^◌, List, length, map, min, nat_lt, Result, Ok, Err, if◌then◌else◌}
+use Rattle.std.specs.Borrow.{Bor}
 use Rattle.std.specs.List.{flat_map}
 use Rattle.acfg_decls.specs.declared.flags.Flag.{Flag}
 use Rattle.acfg_decls.specs.Releases.{kind_of}
@@ -20,6 +21,10 @@ compiled_flag flag = record { «package» = flag.package; flag = flag.name; kind
 -- the flags of caches, in the order of the caches and within them
 abbrev pub compiled_in : List (List Flag) → List Compiled
 compiled_in caches = flat_map (map compiled_flag) caches
+
+-- flags that are lent one by one, as an image has them
+abbrev pub compiled_lent : List (Bor Flag) → List Compiled
+compiled_lent flags = map compiled_flag (map (λ flag. flag.now) flags)
 
 -- a number as a fault tells it, or the greatest one of 64 bits where it is greater
 abbrev pub told : ℕ → ℕ

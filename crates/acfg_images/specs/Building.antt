@@ -5,7 +5,8 @@ use Rattle.std.specs.List.{flat_map}
 use Rattle.std.specs.Str.{bytes_eq}
 use Rattle.std.specs.Borrow.{Bor}
 use Rattle.std.specs.Global.{Vec}
-use Rattle.acfg_views.specs.Layout.{VERSION, Package, Flag, MapParts, package_node, flag_node, map_header_size}
+use Rattle.acfg_views.specs.Layout.{VERSION, Package, Flag, MapParts, package_node, flag_node, map_header}
+use Rattle.acfg_views.specs.Layout.{map_header_size}
 use Rattle.acfg_views.specs.Layout.{map_file, list_file, package_map_type, flag_map_type, flag_val_type, flag_info_type}
 use Rattle.acfg_images.specs.declared.building.groups.Row.{Row}
 use Rattle.acfg_images.specs.declared.building.packages.PackageRow.{PackageRow}
@@ -131,6 +132,12 @@ unlinked_flags = links_from flag_node flag_node_key (λ _. 0)
 abbrev pub map_size_of : {N : Type 0} → (N → List ℕ) → List ℕ → (buckets : ℕ) → List N → ℕ
 map_size_of node container buckets nodes =
     map_header_size container + 4 * buckets + length (flat_map node nodes)
+
+-- the header of a new map file with so many buckets
+abbrev pub new_map_header : (container : List ℕ) (file_type size count buckets : ℕ) → List ℕ
+new_map_header container file_type size count buckets =
+    map_header VERSION container file_type size count
+    (map_header_size container) (map_header_size container + 4 * buckets)
 
 -- a map file's parts from its nodes in order of their buckets
 abbrev pub parts_in_order : {N : Type 0} → (N → List ℕ) → (N → NodeKey) → (N → ℕ

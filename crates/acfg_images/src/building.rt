@@ -3,7 +3,7 @@
 ghost use Rattle.std.specs.Prelude.{◌≡◌, ◌≤◌, ◌<◌, ◌+◌, ◌^◌, IfOk, length, map};
 ghost use Rattle.acfg_views.specs.Layout.{package_node, flag_node};
 ghost use Rattle.acfg_images.specs.Image.{bucket_count};
-ghost use Rattle.acfg_images.specs.Build.{Builds, built, sized, compiled_in};
+ghost use Rattle.acfg_images.specs.Build.{Builds, built, compiled_in, compiled_lent, sized};
 ghost use Rattle.acfg_images.specs.Building.{groups_of, total, grouped_image, Holds, files_in_order, map_size_of};
 ghost use Rattle.acfg_images.specs.Building.{package_of, flag_of, PackagesHaveBuckets, FlagsHaveBuckets};
 
@@ -16,12 +16,12 @@ mod packages;
 
 use crate::set::ImageSet;
 use acfg_base::ContainerName;
-use acfg_decls::Flags;
+use acfg_decls::{Flag, Flags};
 use acfg_sip::table_size;
 pub use fault::BuildFault;
 use files::{list_file, write_flag_map, write_package_map};
 use flags::{FlagRow, flag_map_size, list_flags, list_infos, list_values, sort_flags};
-use groups::{Groups, count_flags, group};
+use groups::{Groups, count_flags, count_lent, group, group_lent};
 use packages::{PackageRow, list_packages, package_map_size, sort_packages};
 use std::alloc::{AllocError, Global};
 
@@ -61,6 +61,26 @@ pub fn build(
         return Err(BuildFault::TooManyFlags(count));
     }
     let groups = group(alloc, caches)?;
+    build_groups(alloc, container.as_str(), &groups, count as u32)
+}
+
+/// The same of flags that are lent one by one.
+///
+/// # Errors
+///
+/// As `build`.
+pub fn build_lent(
+    alloc: Global,
+    container: &ContainerName,
+    flags: &[&Flag],
+) -> Result<ImageSet, BuildFault>
+    ensures { Builds result (built container.now (compiled_lent flags.now)) }
+{
+    let count = count_lent(flags);
+    if count > MOST_FLAGS {
+        return Err(BuildFault::TooManyFlags(count));
+    }
+    let groups = group_lent(alloc, flags)?;
     build_groups(alloc, container.as_str(), &groups, count as u32)
 }
 

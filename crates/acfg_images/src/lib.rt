@@ -25,7 +25,7 @@ mod set;
 mod twins;
 mod views;
 
-pub use building::{BuildFault, MOST_FLAGS, build};
+pub use building::{BuildFault, MOST_FLAGS, build, build_lent};
 pub use checked::Checked;
 pub use checking::check;
 pub use digests::digest;

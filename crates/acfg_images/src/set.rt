@@ -71,4 +71,19 @@ impl ImageSet {
     {
         self.flag_info.as_slice()
     }
+
+    /// The four files, in the order of `new`.
+    pub fn into_files(self) -> (Vec<u8>, Vec<u8>, Vec<u8>, Vec<u8>)
+        ensures package_map { result.0.items ≡ self.package_map }
+        ensures flag_map { result.1.items ≡ self.flag_map }
+        ensures flag_val { result.2.items ≡ self.flag_val }
+        ensures flag_info { result.3.items ≡ self.flag_info }
+    {
+        (
+            self.package_map,
+            self.flag_map,
+            self.flag_val,
+            self.flag_info,
+        )
+    }
 }

@@ -7,8 +7,6 @@ mod buckets;
 mod hasher;
 mod siphash;
 mod state;
-#[cfg(test)]
-mod tests;
 mod word;
 
 pub use buckets::{bucket, flag_bucket, table_size};

@@ -14,8 +14,8 @@ use Rattle.acfg_store.specs.Judged.{IsBlamed, IsMeantSet}
 module _ (IsMeant : Opened → Type 0) where
   pub not_meant : (result : Result Opened ImageFault) (opened : Opened) → result ≡ Ok opened → (IsMeant opened → ⊥) → IsBlamed IsMeant result PackageMap
   not_meant result opened is not = subst (λ (r : Result Opened ImageFault). IsBlamed IsMeant r PackageMap) (sym is) (record {
-    here = λ elsewhere. not (elsewhere refl);
-    alone = λ other apart same. absurd (apart same);
+    here = λ elsewhere. not (elsewhere.meant refl);
+    alone = λ other apart. record { meant = λ same. absurd (apart same) };
   })
 
   pub set_told : (use_of : Use) (set : four.Files) (opened : Opened) → checked use_of set ≡ Ok opened → IsOneSet set use_of opened → IsMeant opened → IsMeantSet use_of IsMeant set opened

@@ -84,7 +84,7 @@ module _ (files : Files) (name_of : FileType → List ℕ) (use_of : Use) (set :
           let ok = no_fault use_of set name release notes is_set in
           let parts = same_as_set use_of set is_set.parts is_set.files_are ok.0 ok.1 in
           let container : ok.0.package_map.container ≡ name = ap (λ (p : SetParts). p.package_map.container) parts ∙ is_set.container_is in
-          subst (IsElsewhere file (IsMeant set)) (sym ok.1) (λ _. meant ok.0 container)
+          subst (IsElsewhere file (IsMeant set)) (sym ok.1) (record { meant = λ _. meant ok.0 container })
 
 module _ (files : Files) (dir : List ℕ) (e : Entry) (valid : IsValidContainer e.container) (release : HoldsRelease files dir e) (overrides : HoldsOverrides files dir e (listing release.is_set.parts)) where
   abbrev flags : List Listed

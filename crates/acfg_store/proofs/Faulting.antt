@@ -124,7 +124,7 @@ module _ (files : Files) (name_of : FileType → List ℕ) (use_of : Use) (IsMea
 
   -- a set that is the one that is meant has no file at fault
   pub meant_sound : (opened : Opened) → IsMeantSet use_of (IsMeant set) set opened → (file : FileType) → IsSoundIn files name_of use_of IsMeant file
-  meant_sound opened is file = sound_where file (subst (IsElsewhere file (IsMeant set)) (sym is.passes) (λ _. is.meant))
+  meant_sound opened is file = sound_where file (subst (IsElsewhere file (IsMeant set)) (sym is.passes) (record { meant = λ _. is.meant }))
 
 -- ---- a container
 

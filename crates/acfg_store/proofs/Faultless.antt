@@ -90,7 +90,7 @@ module _ (files : Files) (fits : HoldBytes files) (name_of : FileType â†’ List â
         record {
           passes = e;
           is_set = is_set_of use_of whole_set opened whole_bytes e;
-          meant = (subst (IsElsewhere PackageMap (IsMeant whole_set)) e ((sound PackageMap).clear whole_set whole_stand)) refl;
+          meant = (subst (IsElsewhere PackageMap (IsMeant whole_set)) e ((sound PackageMap).clear whole_set whole_stand)).meant refl;
         },
       )
       go (Err why) e = absurd ((subst (IsElsewhere (blamed why) (IsMeant whole_set)) e ((sound (blamed why)).clear whole_set whole_stand)) refl)

@@ -1,6 +1,6 @@
 -- Which file of a device directory is at fault first: `records`, and then container by container the files of its named
 -- slots, in one order. A file that isn't there is found before the files of its slot are checked together.
-use Rattle.std.specs.Prelude.{◌≡◌, ℕ, ◌*◌, ◌<◌, ◌≤◌, ◌⊎◌, ⊤, List, [], ◌∷◌, length, slice_index, All, IsTrue}
+use Rattle.std.specs.Prelude.{◌≡◌, ◌≢◌, ℕ, ◌*◌, ◌<◌, ◌≤◌, ◌⊎◌, ⊤, List, [], ◌∷◌, length, slice_index, All, IsTrue}
 use Rattle.std.specs.Prelude.{Some, IsSome, Result, Ok, Err}
 use Rattle.acfg_base.specs.Release.{is_read_write}
 use Rattle.acfg_device.specs.Panel.{Files}
@@ -48,10 +48,14 @@ blamed (fault.Bits file index) = file
 blamed (fault.Disagree on a b) = image.PackageMap
 blamed fault.OutOfMemory = image.PackageMap
 
+-- where this is the file in which a set is found that isn't the one that is meant, it is the one
+pub record IsMeantIn (file : FileType) (Meant : Type 0) : Type 0 where
+  pub meant : file ≡ image.PackageMap → Meant
+
 -- what a check finds isn't in this file; a set that isn't the one that is meant is found in package.map
 abbrev pub IsElsewhere : FileType → (Opened → Type 0) → Result Opened ImageFault → Type 0
-IsElsewhere file IsMeant (Ok opened) = file ≡ image.PackageMap → IsMeant opened
-IsElsewhere file IsMeant (Err fault) = blamed fault ≡ file → ⊥
+IsElsewhere file IsMeant (Ok opened) = IsMeantIn file (IsMeant opened)
+IsElsewhere file IsMeant (Err fault) = blamed fault ≢ file
 
 -- the file is there; and where the others of its slot are there too, nothing that their check finds is in this one
 pub record IsSoundIn (files : Files) (name_of : FileType → List ℕ) (use_of : Use)

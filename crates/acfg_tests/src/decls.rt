@@ -34,7 +34,7 @@ const BOOLS: &str = "package: \"c.a\" container: \"c\"
     flag { name: \"nd\" namespace: \"n\" description: \"d\" bug: \"1\" is_fixed_read_only: 0 }
     flag { name: \"ne\" namespace: \"n\" description: \"d\" bug: \"1\" is_fixed_read_only: 00 }";
 
-const FAULTS: [(&str, usize, DeclWhat); 11] = [
+const FAULTS: [(&str, usize, DeclWhat); 13] = [
     ("", 0, DeclWhat::MissingField),
     (
         "package: \"c.a\" # x\n!",
@@ -42,6 +42,12 @@ const FAULTS: [(&str, usize, DeclWhat); 11] = [
         DeclWhat::Text(TextWhat::BadByte),
     ),
     ("package: \"c.a\" flags: 1", 15, DeclWhat::UnknownField),
+    ("flags: 1 package: \"c.a\"", 0, DeclWhat::UnknownField),
+    (
+        "flags: 1 package: }",
+        18,
+        DeclWhat::Text(TextWhat::Unexpected),
+    ),
     (
         "package: \"c.a\" package: \"c.a\"",
         15,

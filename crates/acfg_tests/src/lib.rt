@@ -11,11 +11,15 @@ mod decls;
 #[cfg(test)]
 mod dump;
 #[cfg(test)]
+mod hashes;
+#[cfg(test)]
 mod images;
 #[cfg(test)]
 mod lookup;
 #[cfg(test)]
 mod model;
+#[cfg(test)]
+mod names;
 #[cfg(test)]
 mod text;
 #[cfg(test)]

@@ -13,6 +13,7 @@ mod Slices
 mod Steps
 mod Failures
 pub mod Wholes
+mod Onward
 mod Folded
 mod Utf8Bytes
 mod Reprinted

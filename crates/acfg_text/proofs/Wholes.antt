@@ -1,41 +1,22 @@
 -- Texts as wholes: one tree or one first fault.
-use Rattle.std.proofs.Common.{◌≡◌, ℕ, ◌⊎◌, inl, inr, true, List, [], length, map, Result, Ok, Err, refl, sym, ap, ◌∙◌, subst}
-use Rattle.acfg_text.specs.declared.classes.Class.{Class}
-use Rattle.acfg_text.specs.declared.classes.Class.TheVariants as c
-use Rattle.acfg_text.specs.declared.terminals.Seen.{Seen}
+use Rattle.std.proofs.Common.{◌≡◌, ℕ, ◌⊎◌, inl, inr, true, List, length, map, Result, Ok, Err, refl, sym, ap, ◌∙◌, subst}
 use Rattle.acfg_text.specs.declared.tree.Tree.{Tree}
 use Rattle.acfg_text.specs.declared.tree.Item.{Item}
 use Rattle.acfg_text.specs.declared.fault.TextWhat.{TextWhat}
-use Rattle.acfg_text.specs.declared.fault.TextWhat.TheVariants.{Unexpected}
 use Rattle.acfg_text.specs.Trees.{tree}
-use Rattle.acfg_text.specs.Terminals.{Lexeme, Terminal, terminal_of}
+use Rattle.acfg_text.specs.Terminals.{Lexeme, terminal_of}
 use Rattle.acfg_text.specs.Grammar.{Derives}
 use Rattle.acfg_text.specs.TextFaults.{IsFirst}
 use Rattle.acfg_text.specs.Lexes.{Lexes, LexFault}
 use Rattle.acfg_text.specs.Spells.{Spells, FirstFault}
-use Rattle.acfg_text.specs.Machine.{at_field, st, Fault, fault, step_at, run, begin}
-use Rattle.acfg_text.specs.Reading.{ahead, seen_of, IsNext, NoField, ReadsFields, ReadsAll, FailsAll}
+use Rattle.acfg_text.specs.Machine.{Fault, fault, run, begin}
+use Rattle.acfg_text.specs.Reading.{ReadsAll, FailsAll}
 use Rattle.acfg_text.specs.Scanning.{lex}
 use Rattle.acfg_text.proofs.Lexing.{lex_lexes, lex_faults, lexes_lex, faults_lex, one_lexes}
 use Rattle.acfg_text.proofs.Slices.{lexes_rising}
 use Rattle.acfg_text.proofs.Leading.{one_derived}
 use Rattle.acfg_text.proofs.Resting.{run_derives}
 use Rattle.acfg_text.proofs.Stopping.{apart, first_fault, one_first}
-use Rattle.acfg_text.proofs.Parts.{fails_step}
-
--- the reader's whole run
-pub all_read : (tokens : List Lexeme) (end at : ℕ) (items : List Item) → ReadsFields tokens end 0 0 items at → ahead tokens at ≡ [] → ReadsAll tokens end items
-unfolding run
-all_read tokens end at items fields none = fields.leads [] refl ∙ ap (λ l. run true end l (st at_field items [])) none
-
-stray_end : (class : Class) (t : Terminal) (items : List Item) → (class ≡ c.Word → ⊥) → step_at true at_field class t items [] ≡ Err (fault t.place Unexpected)
-stray_end c.Word t items x = absurd (x refl)
-stray_end _ t items x = refl
-
-pub all_stray : (tokens : List Lexeme) (end at : ℕ) (items : List Item) (t : Seen) → ReadsFields tokens end 0 0 items at → IsNext tokens at t → FailsAll tokens end t.place Unexpected
-all_stray tokens end at items t fields next =
-    let no_word : t.class ≡ c.Word → ⊥ = subst NoField next fields.ends in
-    fields.leads [] refl ∙ fails_step tokens end at t (st at_field items []) t.place Unexpected next (stray_end t.class (seen_of t) items no_word)
 
 -- what the tokens and their reading say of the text
 pub spells : (text : List ℕ) (found : List Lexeme) (items : List Item) (read : Tree) → Lexes text found → ReadsAll found (length text) items → read ≡ tree items (length text) → Spells text read

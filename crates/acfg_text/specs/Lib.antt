@@ -5,6 +5,7 @@ pub mod Machine
 pub mod Marked
 pub mod Meanings
 pub mod Printed
+pub mod Progress
 pub mod Reading
 pub mod Scanning
 pub mod Spells

@@ -1,5 +1,5 @@
 -- Words of the reader's private contracts and of proofs alone: what its parts read, as runs of the machine.
-use Rattle.std.specs.Prelude.{◌≡◌, ◌≢◌, ℕ, ◌+◌, ◌<◌, ◌^◌, Bool, true, false, List, [], ◌∷◌, ◌++◌, length, map, drop}
+use Rattle.std.specs.Prelude.{◌≡◌, ◌≢◌, ℕ, ◌+◌, ◌<◌, ◌≤◌, ◌^◌, Bool, true, false, List, [], ◌∷◌, ◌++◌, length, map, drop}
 use Rattle.std.specs.Prelude.{Ok, Err}
 use Rattle.std.specs.List.{All}
 use Rattle.std.specs.Str.{IsAscii}
@@ -35,6 +35,11 @@ pub record IsPlain (token : Lexeme) : Type 0 where
 -- tokens that can be read: each is plain, and their number is one of the machine's
 abbrev pub ArePlain : List Lexeme → Type 0
 ArePlain tokens = All IsPlain tokens × (length tokens < 2 ^ 64)
+
+-- tokens that can be read, and the number of one of them or, at their end, of all
+pub record IsReadAt (tokens : List Lexeme) (at : ℕ) : Type 0 where
+  pub plain : ArePlain tokens
+  pub within : at ≤ length tokens
 
 -- this token stands there
 abbrev pub IsNext : List Lexeme → ℕ → Seen → Type 0
@@ -101,6 +106,10 @@ module _ (tokens : List Lexeme) (end : ℕ) where
   abbrev pub FailsField : ℕ → ℕ → ℕ → TextWhat → Type 0
   FailsField depth from p w =
       (top : List Item) (frames : List Frame) → length frames ≡ depth → FailsBy from (st at_field top frames) p w
+
+  -- where a field of the text's own is due, whichever were read before
+  abbrev pub FailsNext : ℕ → ℕ → TextWhat → Type 0
+  FailsNext from p w = (items : List Item) → FailsBy from (st at_field items []) p w
 
   abbrev pub ReadsHeld : ℕ → ℕ → Bool → List Value → ℕ → Type 0
   ReadsHeld depth from listed values at = (h : Head) (top : List Item) (frames : List Frame) → length frames ≡ depth

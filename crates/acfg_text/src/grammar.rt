@@ -27,9 +27,9 @@ use std::str;
 /// The most messages that may be open in one another.
 const MOST_OPEN: usize = 32;
 
-/// Reads fields up to a token that begins none.
+// Reads fields up to a token that begins none.
 #[cycle(fields)]
-pub fn read_fields(
+fn read_fields(
     alloc: Global,
     tokens: &Tokens<'_>,
     end: usize,
@@ -53,8 +53,9 @@ pub fn read_fields(
     Ok((items, at))
 }
 
+/// Reads a field that begins with this name.
 #[cycle(fields)]
-fn read_field(
+pub fn read_field(
     alloc: Global,
     tokens: &Tokens<'_>,
     end: usize,

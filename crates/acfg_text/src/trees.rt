@@ -1,20 +1,15 @@
 //! Texts read into trees.
 
-ghost use Rattle.std.specs.Prelude.{◌≡◌, ◌⊎◌, ℕ, List, [], length, map, IfOk, IfErr, IfNone, IfSome};
+ghost use Rattle.std.specs.Prelude.{◌≡◌, ◌⊎◌, ℕ, List, length, map, IfOk, IfErr};
 ghost use Rattle.acfg_text.specs.declared.fault.TextWhat.{TextWhat};
-ghost use Rattle.acfg_text.specs.Terminals.{Lexeme, lexeme_of, terminal_of};
+ghost use Rattle.acfg_text.specs.Terminals.{Lexeme, terminal_of};
 ghost use Rattle.acfg_text.specs.Lexes.{Lexes, AreSlices};
 ghost use Rattle.acfg_text.specs.TextFaults.{IfAt, Rising};
-ghost use Rattle.acfg_text.specs.Spells.{Spells, FirstFault, GrammarFault};
-ghost use Rattle.acfg_text.specs.Grammar.{Derives};
-ghost use Rattle.acfg_text.specs.Reading.{terminal_at, ArePlain, ReadsAll, FailsAll};
+ghost use Rattle.acfg_text.specs.Spells.{Spells, FirstFault};
 
-use crate::fault::{TextFault, TextWhat};
-use crate::grammar::read_fields;
-use crate::lexer::lexed;
-use crate::marks::Tokens;
-use crate::terminals::peek;
-use crate::tree::{Item, Tree};
+use crate::fault::TextFault;
+use crate::reader::FieldReader;
+use crate::tree::Tree;
 use sqlite_items::Items;
 use std::alloc::Global;
 
@@ -27,25 +22,15 @@ pub fn read_tree(alloc: Global, source: &[u8]) -> Result<Tree, TextFault>
     ensures ok { IfOk result (Spells source.now) }
     ensures err { IfErr result (λ failure. IfAt failure (FirstFault source.now)) }
 {
-    let found = lexed(alloc, source)?;
-    let items = read_items(alloc, &found, source.len())?;
+    let mut fields = FieldReader::new(alloc, source)?;
+    let mut items = Items::new(alloc);
+    while let Some(field) = fields.next(alloc)? {
+        items.push(field)?;
+    }
     Ok(Tree {
         items,
         end: source.len(),
     })
-}
-
-// All tokens, read as fields.
-fn read_items(alloc: Global, tokens: &Tokens<'_>, end: usize) -> Result<Items<Item>, TextFault>
-    requires plain { ArePlain tokens.now }
-    ensures ok { IfOk result (ReadsAll tokens.now end) }
-    ensures err { IfErr result (λ failure. IfAt failure (FailsAll tokens.now end)) }
-{
-    let (items, at) = read_fields(alloc, tokens, end, 0, 0)?;
-    match peek(tokens, at) {
-        None => Ok(items),
-        Some(seen) => Err(TextFault::At(seen.place, TextWhat::Unexpected)),
-    }
 }
 
 /// A text spells at most one tree, or is refused with one first fault, and never both; and there is one of the two.

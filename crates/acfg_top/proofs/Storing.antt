@@ -1,5 +1,5 @@
 -- `create-storage` has one outcome, and some outcome.
-use Rattle.std.proofs.Common.{◌≡◌, ◌<◌, ℕ, zero, suc, false, Contains, List, [], ◌∷◌, ◌++◌, get_or, length, map, refl, sym, ◌∙◌, ap, subst, inl, inr, append-nil, arith}
+use Rattle.std.proofs.Common.{◌≡◌, ◌<◌, ℕ, zero, suc, false, Contains, List, [], ◌∷◌, ◌++◌, get_or, length, map, refl, sym, ◌∙◌, ap, subst, inl, inr, arith}
 use Rattle.std.specs.Prelude.{codes}
 use Rattle.std.specs.Fmt.{decimal}
 use Rattle.std.proofs.lemmas.List.{get_or-map, length-map}
@@ -8,7 +8,7 @@ use Rattle.acfg_commit.specs.Written.{IsNameAmong}
 use Rattle.acfg_commit.specs.declared.several.NewFile.{NewFile}
 use Rattle.acfg_decls.specs.declared.flags.Flag.{Flag}
 use Rattle.acfg_device.specs.Panel.{Files}
-use Rattle.acfg_images.specs.Build.{built, compiled_flag, compiled_in}
+use Rattle.acfg_images.specs.Build.{built, compiled_flag}
 use Rattle.acfg_images.specs.Files.{Files as SetFiles}
 use Rattle.acfg_images.specs.declared.fault.FileType.TheVariants.{PackageMap, FlagMap, FlagVal, FlagInfo}
 use Rattle.acfg_top.specs.Bodies.{input_of, inputs_of, writes_in}
@@ -77,10 +77,6 @@ module _ (container dir : List ℕ) where
 
   pub some_create_storage : (names : List (List ℕ)) (files : Files) → Some_ (CreateStorageGives container dir names files)
   some_create_storage names files = some_inputs (inputs_in files names) (StoredGives container dir) some_stored
-
--- the flags of one cache
-pub one_cache : (flags : List Flag) → compiled_in (flags ∷ []) ≡ map compiled_flag flags
-one_cache flags = append-nil (map compiled_flag flags)
 
 -- the names of a set's files
 among_set : (dir : List ℕ) (set : SetFiles) (name : List ℕ) → Contains (map (λ (write : List ℕ × List ℕ). write.0) (set_writes dir set)) name → IsFileIn dir name

@@ -4,7 +4,7 @@ ghost use Rattle.std.specs.Prelude.{◌≡◌, [], Ok, IsTrue, IfOk, IfErr, OnEr
 ghost use Rattle.std.specs.Prelude.{option_map, slice_index_or, string_bytes, unwrap_or};
 ghost use Rattle.std.specs.Str.{bytes_eq};
 ghost use Rattle.acfg_base.specs.Names.{IsContainer};
-ghost use Rattle.acfg_cache.specs.Merging.{IsMerged};
+ghost use Rattle.acfg_cache.specs.Merging.{IsMerged, lent};
 ghost use Rattle.acfg_device.specs.Only.{OnlyReads};
 ghost use Rattle.acfg_images.specs.Build.{built, compiled_flag};
 ghost use Rattle.acfg_images.specs.Image.{package_names};
@@ -26,14 +26,13 @@ use crate::query::path_in;
 use crate::told::{Halt, Refusal, Told, refused};
 use crate::words::StorageWords;
 use acfg_base::{ContainerName, OutOfMemory};
-use acfg_cache::{MergeFault, merge};
+use acfg_cache::{MergeFault, join};
 use acfg_commit::NewFile;
 use acfg_decls::{Flag, Flags};
 use acfg_device::{Device, Panel};
-use acfg_images::{BuildFault, FileType, ImageSet, build, digest};
+use acfg_images::{BuildFault, FileType, ImageSet, build_lent, digest};
 use std::alloc::{AllocError, Global};
 use std::collections::BTreeSet;
-use std::slice;
 
 /// Writes the image set of caches, and says how many flags and packages it has, and its digest.
 pub fn create_storage<D: Device>(
@@ -107,17 +106,20 @@ fn store_inputs(
 {
     let lists = read_caches(alloc, Some(container), inputs)?;
     let flags = merged(alloc, inputs, &lists)?;
-    drop(lists);
     store_flags(alloc, container, dir, &flags)
 }
 
 // The flags of caches together, or the refusal of the first clash.
-fn merged(alloc: Global, inputs: &[Input<'_>], lists: &[Flags]) -> Result<Flags, Halt>
-    ensures ok { IfOk result (λ flags. IsMerged lists.now false flags) }
+fn merged<'a>(
+    alloc: Global,
+    inputs: &[Input<'_>],
+    lists: &'a [Flags],
+) -> Result<Vec<&'a Flag>, Halt>
+    ensures ok { IfOk result (λ flags. IsMerged lists.now false (lent flags.items)) }
     ensures err { IfErr result (IfRefused (Clashing (map (λ input. input.name) (inputs_of inputs.now))
         lists.now false)) }
 {
-    match merge(alloc, lists, false) {
+    match join(alloc, lists, false) {
         Ok(flags) => Ok(flags),
         Err(MergeFault::Clash(list, name)) => Err(Halt::Refused(refused(
             alloc,
@@ -138,16 +140,16 @@ fn input_name_at<'a>(inputs: &[Input<'a>], position: usize) -> &'a str
 }
 
 // The image set of merged flags as files in a directory, and what there is to tell of it.
-fn store_flags(alloc: Global, container: &str, dir: &str, flags: &Flags) -> Result<Output, Halt>
+fn store_flags(alloc: Global, container: &str, dir: &str, flags: &[&Flag]) -> Result<Output, Halt>
     requires { IsContainer container.now }
-    ensures ok { IfOk result (IsMade (FlagsStored container.now dir.now flags.now)) }
+    ensures ok { IfOk result (IsMade (FlagsStored container.now dir.now (lent flags.now))) }
     ensures names { IfOk result (AreAmong (IsFileIn dir.now)) }
-    ensures err { IfErr result (IfRefused (λ file what. FlagsStored container.now dir.now flags.now
+    ensures err { IfErr result (IfRefused (λ file what. FlagsStored container.now dir.now (lent flags.now)
         (Refused file what))) }
 {
     let name = container_of(alloc, container)?;
     let set = image_of(alloc, &name, dir, flags)?;
-    Ok(product(alloc, dir, flags, &set)?)
+    Ok(product(alloc, dir, flags, set)?)
 }
 
 // The image of flags, or the refusal of the directory for a limit that it would pass.
@@ -155,13 +157,13 @@ fn image_of(
     alloc: Global,
     container: &ContainerName,
     dir: &str,
-    flags: &Flags,
+    flags: &[&Flag],
 ) -> Result<ImageSet, Halt>
-    ensures ok { IfOk result (λ set. built container.now (map compiled_flag flags.now) ≡ Ok set) }
-    ensures err { IfErr result (IfRefused (λ file what. FlagsStored container.now dir.now flags.now
+    ensures ok { IfOk result (λ set. built container.now (map compiled_flag (lent flags.now)) ≡ Ok set) }
+    ensures err { IfErr result (IfRefused (λ file what. FlagsStored container.now dir.now (lent flags.now)
         (Refused file what))) }
 {
-    match build(alloc, container, slice::from_ref(flags)) {
+    match build_lent(alloc, container, flags) {
         Ok(set) => Ok(set),
         Err(BuildFault::OutOfMemory) => Err(Halt::OutOfMemory),
         Err(fault) => Err(Halt::Refused(refused(alloc, dir, Refusal::Limit(fault))?)),
@@ -169,11 +171,11 @@ fn image_of(
 }
 
 // The files of an image set, and what there is to tell of it.
-fn product(alloc: Global, dir: &str, flags: &Flags, set: &ImageSet) -> Result<Output, OutOfMemory>
-    ensures { IfOk result (IsOutputOf (Done (stored_line (map compiled_flag flags.now) set.now)
-        (set_writes dir.now set.now))) }
+fn product(alloc: Global, dir: &str, flags: &[&Flag], set: ImageSet) -> Result<Output, OutOfMemory>
+    ensures { IfOk result (IsOutputOf (Done (stored_line (map compiled_flag (lent flags.now)) set)
+        (set_writes dir.now set))) }
 {
-    let text = stored_text(alloc, flags.list(), set)?;
+    let text = stored_text(alloc, flags, &set)?;
     let files = set_files(alloc, dir, set)?;
     Ok(Output {
         told: Told {
@@ -184,28 +186,28 @@ fn product(alloc: Global, dir: &str, flags: &Flags, set: &ImageSet) -> Result<Ou
     })
 }
 
-fn set_files(alloc: Global, dir: &str, set: &ImageSet) -> Result<Vec<NewFile>, OutOfMemory>
-    ensures { IfOk result (λ files. writes_in files.items ≡ set_writes dir.now set.now) }
+fn set_files(alloc: Global, dir: &str, set: ImageSet) -> Result<Vec<NewFile>, OutOfMemory>
+    ensures { IfOk result (λ files. writes_in files.items ≡ set_writes dir.now set) }
 {
+    let (package_map, flag_map, flag_val, flag_info) = set.into_files();
     let mut files = Vec::new(alloc);
-    files.push(file_of(alloc, dir, FileType::PackageMap, set.package_map())?)?;
-    files.push(file_of(alloc, dir, FileType::FlagMap, set.flag_map())?)?;
-    files.push(file_of(alloc, dir, FileType::FlagVal, set.flag_val())?)?;
-    files.push(file_of(alloc, dir, FileType::FlagInfo, set.flag_info())?)?;
+    files.push(file_of(alloc, dir, FileType::PackageMap, package_map)?)?;
+    files.push(file_of(alloc, dir, FileType::FlagMap, flag_map)?)?;
+    files.push(file_of(alloc, dir, FileType::FlagVal, flag_val)?)?;
+    files.push(file_of(alloc, dir, FileType::FlagInfo, flag_info)?)?;
     Ok(files)
 }
 
-fn file_of(alloc: Global, dir: &str, file: FileType, bytes: &[u8]) -> Result<NewFile, AllocError>
+fn file_of(alloc: Global, dir: &str, file: FileType, bytes: Vec<u8>) -> Result<NewFile, AllocError>
     ensures name { IfOk result (λ made. string_bytes made.name ≡ file_in dir.now file) }
-    ensures bytes { IfOk result (λ made. made.bytes.items ≡ bytes.now) }
+    ensures bytes { IfOk result (λ made. made.bytes.items ≡ bytes.items) }
 {
     let name = path_in(alloc, dir, file)?;
-    let bytes = Vec::from_slice(alloc, bytes)?;
     Ok(NewFile { name, bytes })
 }
 
-fn stored_text(alloc: Global, flags: &[Flag], set: &ImageSet) -> Result<String, AllocError>
-    ensures { IfOk result (λ text. string_bytes text ≡ stored_line (map compiled_flag flags.now) set.now) }
+fn stored_text(alloc: Global, flags: &[&Flag], set: &ImageSet) -> Result<String, AllocError>
+    ensures { IfOk result (λ text. string_bytes text ≡ stored_line (map compiled_flag (lent flags.now)) set.now) }
 {
     let packages = count_packages(alloc, flags)?;
     stored_words(alloc, flags.len(), packages, &digest(set))
@@ -224,8 +226,8 @@ fn stored_words(
 }
 
 // How many packages flags are of.
-fn count_packages(alloc: Global, flags: &[Flag]) -> Result<usize, AllocError>
-    ensures { IfOk result (λ count. count ≡ length (package_names (map compiled_flag flags.now))) }
+fn count_packages(alloc: Global, flags: &[&Flag]) -> Result<usize, AllocError>
+    ensures { IfOk result (λ count. count ≡ length (package_names (map compiled_flag (lent flags.now)))) }
 {
     let mut names = BTreeSet::new(alloc);
     let mut last = None;

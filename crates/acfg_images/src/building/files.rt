@@ -3,12 +3,12 @@
 ghost use Rattle.std.specs.Prelude.{◌≡◌, ◌<◌, ◌^◌, ◌++◌, ◌+◌, ◌*◌, IfOk, OnOk, EachIndex, length, map, slice_index};
 ghost use Rattle.std.specs.List.{flat_map};
 ghost use Rattle.acfg_views.specs.Fields.{number};
-ghost use Rattle.acfg_views.specs.Layout.{VERSION as version_1, map_header, map_header_size, list_header};
+ghost use Rattle.acfg_views.specs.Layout.{VERSION as version_1, list_header};
 ghost use Rattle.acfg_views.specs.Layout.{list_header_size, map_file, list_file as list_file_of, package_map_type};
 ghost use Rattle.acfg_views.specs.Layout.{flag_map_type, package_node, flag_node};
 ghost use Rattle.acfg_images.specs.Links.{package_key, flag_node_key};
 ghost use Rattle.acfg_images.specs.Building.{package_of, flag_of, map_size_of, parts_in_order, package_with, flag_with};
-ghost use Rattle.acfg_images.specs.Building.{PackagesHaveBuckets, FlagsHaveBuckets};
+ghost use Rattle.acfg_images.specs.Building.{PackagesHaveBuckets, FlagsHaveBuckets, new_map_header};
 
 use super::fields::{put_string, put_u8, put_u32};
 use super::flags::{FlagRow, link_flags, put_flags};
@@ -186,8 +186,8 @@ fn put_map_header(
     buckets: u32,
 ) -> Result<(), AllocError>
     requires { 25 + length container.now + 4 * buckets < 2 ^ 32 }
-    ensures { OnOk result (out.new.items ≡ out.old.items ++ map_header version_1 container.now file_type size count
-        (map_header_size container.now) (map_header_size container.now + 4 * buckets)) }
+    ensures { OnOk result (out.new.items
+        ≡ out.old.items ++ new_map_header container.now file_type size count buckets) }
 {
     let first_bucket = 25 + container.len() as u32;
     put_u32(out, VERSION)?;

@@ -1,7 +1,7 @@
 //! Flags grouped by their packages.
 
 ghost use Rattle.std.specs.Prelude.{◌≡◌, ◌≤◌, IfOk, OnOk, length, map, fold};
-ghost use Rattle.acfg_images.specs.Build.{compiled_flag, compiled_in, told};
+ghost use Rattle.acfg_images.specs.Build.{compiled_flag, compiled_in, compiled_lent, told};
 ghost use Rattle.acfg_images.specs.Building.{row_of, groups_of, grown, grouped};
 
 use acfg_base::Kind;
@@ -32,6 +32,13 @@ pub(crate) fn count_flags(caches: &[Flags]) -> u64
     count
 }
 
+/// How many flags are lent.
+pub(crate) fn count_lent(flags: &[&Flag]) -> u64
+    ensures { result ≡ told (length (compiled_lent flags.now)) }
+{
+    flags.len() as u64
+}
+
 /// The flags of caches by their packages.
 pub(crate) fn group<'a>(alloc: Global, caches: &'a [Flags]) -> Result<Groups<'a>, AllocError>
     ensures { IfOk result (λ groups. groups_of groups.entries ≡ grouped (compiled_in caches.now)) }
@@ -51,6 +58,17 @@ fn add_all<'a>(alloc: Global, groups: &mut Groups<'a>, flags: &'a [Flag]) -> Res
         add(alloc, groups, make_row(flag))?;
     }
     Ok(())
+}
+
+/// Flags that are lent one by one, by their packages.
+pub(crate) fn group_lent<'a>(alloc: Global, flags: &[&'a Flag]) -> Result<Groups<'a>, AllocError>
+    ensures { IfOk result (λ groups. groups_of groups.entries ≡ grouped (compiled_lent flags.now)) }
+{
+    let mut groups = IndexMap::new(alloc);
+    for flag in flags {
+        add(alloc, &mut groups, make_row(*flag))?;
+    }
+    Ok(groups)
 }
 
 fn make_row(flag: &Flag) -> Row<'_>

@@ -20,12 +20,12 @@ returns-in_err-test_order-clause-err c =
     let before = c.args.flags.now.items in
     let flag = c.in_ok-flag.flag in
     let counted : c.len.result ≡ length before = search rules in
-    let fails = subst (λ (flags : List Flag). IfFault c.in_err-test_order.field-0.0 (FirstFails (order_tests (length flags) (last_or None flags) flag))) c.deref.ensures.value c.in_err-test_order.ensures.err in
+    let fails = subst (λ (flags : List Flag). IfFault c.in_err-test_order.field-0.0 (FirstFails (order_tests (length flags) (last_or None flags) flag))) c.deref-2.ensures.value c.in_err-test_order.ensures.err in
     rw (p.1, p.2) (one_place_fails before c.len.result (c.args.begins, c.args.content.now) flag c.in_err-test_order.field-0.0 counted c.in_ok-flag.ensures.flag c.in_ok-flag.ensures.passed fails)
 
 pub returns-clause-rise : goal.returns-clause-rise
 returns-clause-rise c = λ rise.
     let before = c.args.flags.now.items in
     let flag = c.in_ok-flag.flag in
-    let holds = subst (λ (flags : List Flag). AllByRecursion Holds (order_tests (length flags) (last_or None flags) flag)) c.deref.ensures.value c.in_ok-test_order.ensures.passed in
+    let holds = subst (λ (flags : List Flag). AllByRecursion Holds (order_tests (length flags) (last_or None flags) flag)) c.deref-2.ensures.value c.in_ok-test_order.ensures.passed in
     subst Rise (sym c.in_ok-push.ensures.items) (rise_more before flag (length before) rise holds)

@@ -1,9 +1,10 @@
 use Rattle.std.proofs.Common.{◌≡◌, ℕ, ◌<◌, ◌≤◌, ◌∙◌, List, [], length, get_or, sym, ap, subst, arith}
 use Rattle.std.proofs.lemmas.List.{get_or-map, length-map, take_all}
 use Rattle.std.proofs.lemmas.Result.{err_from_is_err_and}
+use Rattle.std.specs.Borrow.{Bor}
 use Rattle.acfg_decls.specs.declared.flags.Flag.{Flag}
 use Rattle.acfg_cache.specs.declared.merging.Row.{Row}
-use Rattle.acfg_cache.specs.Merging.{FirstClashIn}
+use Rattle.acfg_cache.specs.Merging.{FirstClashIn, lent}
 use Rattle.acfg_cache.specs.Rows.{Adds, InRows, IsClashOf, IsTaken, Listed, row_read, rows_read}
 use Rattle.acfg_cache.proofs.Taking.{clash_weaker, first_clash, taken_next, taken_none}
 use Rattle.acfg_cache.proofs.merging.take_rows.Goals as goal
@@ -13,15 +14,15 @@ read_at : (rows : List Row) (i : ℕ) (row : Row) → i < length rows → row �
 read_at rows i row within is = get_or-map row_read rows i row (row_read row) within ∙ ap row_read (sym is)
 
 pub loop-row-init : goal.loop-row-init
-loop-row-init c = subst (λ (flags : List Flag). IsTaken c.args.dedup [] flags) (sym c.new-flags.ensures.items) (taken_none c.args.dedup)
+loop-row-init c = subst (λ (flags : List (Bor Flag)). IsTaken c.args.dedup [] (lent flags)) (sym c.in_ok-flags.ensures.items) (taken_none c.args.dedup)
 
 pub loop-row-preserved : goal.loop-row-preserved
 loop-row-preserved c =
     let rows = c.args.rows.now in
     let i = c.loop-row.row-index in
     let row = c.row-item.result in
-    let flags = c.loop-row.flags.items in
-    let after = c.add_row.new.flags.items in
+    let flags = lent c.loop-row.flags.items in
+    let after = lent c.add_row.new.flags.items in
     let long = length-map rows row_read in
     let within : i < length (rows_read rows) = omega (arith, long, c.loop-row-test.true) in
     let at = read_at rows i row c.loop-row-test.true c.row-item.is in
@@ -30,11 +31,11 @@ loop-row-preserved c =
 
 pub returns-in_err-add_row-clause-err : goal.returns-in_err-add_row-clause-err
 returns-in_err-add_row-clause-err c =
-    let p = err_from_is_err_and c.from_residual.result c.from_residual.ensures.1 in
+    let p = err_from_is_err_and c.from_residual-in_err-add_row.result c.from_residual-in_err-add_row.ensures.1 in
     let rows = c.args.rows.now in
     let i = c.loop-row.row-index in
     let row = c.row-item.result in
-    let flags = c.loop-row.flags.items in
+    let flags = lent c.loop-row.flags.items in
     let long = length-map rows row_read in
     let within : i < length (rows_read rows) = omega (arith, long, c.loop-row-test.true) in
     let at = read_at rows i row c.loop-row-test.true c.row-item.is in
@@ -48,4 +49,4 @@ returns-clause-ok c =
     let rows = c.args.rows.now in
     let long = length-map rows row_read in
     let past : length (rows_read rows) ≤ c.loop-row.row-index = omega (arith, long, c.loop-row-test.false) in
-    subst (λ (rs : List Listed). IsTaken c.args.dedup rs c.loop-row.flags.items) (take_all c.loop-row.row-index (rows_read rows) past) c.loop-row.invariant
+    subst (λ (rs : List Listed). IsTaken c.args.dedup rs (lent c.loop-row.flags.items)) (take_all c.loop-row.row-index (rows_read rows) past) c.loop-row.invariant

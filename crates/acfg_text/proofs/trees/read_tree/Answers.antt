@@ -1,19 +1,23 @@
-use Rattle.std.proofs.Common.{refl}
+use Rattle.std.proofs.Common.{sym, subst}
+use Rattle.std.proofs.lemmas.Option.{MatchOption-at_none, MatchOption-at_some}
 use Rattle.std.proofs.lemmas.Result.{err_from_is_err_and}
 use Rattle.acfg_text.specs.Trees.{tree}
+use Rattle.acfg_text.specs.Progress.{HasRead}
 use Rattle.acfg_text.proofs.Failures.{at_weaker}
-use Rattle.acfg_text.proofs.Plainness.{are_plain}
-use Rattle.acfg_text.proofs.Wholes.{spells, refuses}
 use Rattle.acfg_text.proofs.trees.read_tree.Goals as goal
 
-pub read_items-requires : goal.read_items-requires
-read_items-requires c = record { plain = are_plain c.args.source.now c.in_ok-found.found c.in_ok-found.ensures.ok c.in_ok-found.ensures.few }
+pub loop-items-init : goal.loop-items-init
+loop-items-init c = subst (λ i. HasRead c.args.source.now i c.in_ok-fields.fields) (sym c.new-items.ensures) c.in_ok-fields.ensures.ok
 
-pub returns-in_err-items-clause-err : goal.returns-in_err-items-clause-err
-returns-in_err-items-clause-err c =
-    let p = err_from_is_err_and c.from_residual-in_err-items.result c.from_residual-in_err-items.ensures.1 in
-    rw (p.1, p.2) (at_weaker c.in_err-items.field-0.0 _ _ (λ q w f. refuses c.args.source.now c.in_ok-found.found q w c.in_ok-found.ensures.ok f) c.in_err-items.ensures.err)
+pub loop-items-preserved : goal.loop-items-preserved
+loop-items-preserved c =
+    subst (λ i. HasRead c.args.source.now i c.next.new.self) (sym c.in_ok-push.ensures.ok) (MatchOption-at_some _ _ c.in-Some.field c.in-Some.is c.in_ok-field.ensures.ok c.args.source.now c.loop-items.items c.loop-items.invariant)
+
+pub returns-in_err-field-clause-err : goal.returns-in_err-field-clause-err
+returns-in_err-field-clause-err c =
+    let p = err_from_is_err_and c.from_residual-in_err-field.result c.from_residual-in_err-field.ensures.1 in
+    rw (p.1, p.2) (at_weaker c.in_err-field.field-0.0 _ _ (λ q w f. f c.args.source.now c.loop-items.items c.loop-items.invariant) c.in_err-field.ensures.err)
 
 pub returns-clause-ok : goal.returns-clause-ok
 unfolding tree
-returns-clause-ok c = spells c.args.source.now c.in_ok-found.found c.in_ok-items.items _ c.in_ok-found.ensures.ok c.in_ok-items.ensures.ok refl
+returns-clause-ok c = MatchOption-at_none _ _ c.in_default.is c.in_ok-field.ensures.ok c.args.source.now c.loop-items.items c.loop-items.invariant

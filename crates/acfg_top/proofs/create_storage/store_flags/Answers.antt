@@ -1,4 +1,5 @@
 use Rattle.std.proofs.Common.{◌∙◌, map, ap, sym}
+use Rattle.acfg_cache.specs.Merging.{lent}
 use Rattle.acfg_images.specs.Build.{built, compiled_flag}
 use Rattle.acfg_top.specs.CreateStorage.{image_told, set_writes, stored_line}
 use Rattle.acfg_top.proofs.Storing.{files_in}
@@ -6,7 +7,7 @@ use Rattle.acfg_top.proofs.create_storage.store_flags.Goals as goal
 
 pub returns-clause-ok : goal.returns-clause-ok
 returns-clause-ok c =
-    let compiled = map compiled_flag c.args.flags.now in
+    let compiled = map compiled_flag (lent c.args.flags.now) in
     record {
       text = stored_line compiled c.in_ok-set.set;
       writes = set_writes c.args.dir.now c.in_ok-set.set;

@@ -1,6 +1,7 @@
-use Rattle.std.proofs.Common.{false, map, subst, sym}
+use Rattle.std.proofs.Common.{List, false, map, subst, sym}
+use Rattle.std.specs.Borrow.{Bor}
 use Rattle.std.proofs.lemmas.Result.{IfErr-weaker, IfOk-weaker, err_from_is_err_and}
-use Rattle.acfg_cache.specs.Merging.{IsMerged}
+use Rattle.acfg_cache.specs.Merging.{IsMerged, lent}
 use Rattle.acfg_top.specs.Bodies.{IfRefused, IsMade, inputs_of}
 use Rattle.acfg_top.specs.Caches.{Clashing}
 use Rattle.acfg_top.specs.CreateStorage.{FlagsStored, IsNoOwnCache, IsOwnCache, ListsStored, StoredGives}
@@ -36,11 +37,12 @@ returns-clause-ok c =
     let inputs = inputs_of c.args.inputs.now in
     let names = map (λ (input : Given). input.name) inputs in
     let lists = c.deref.result.now in
-    let flags = c.in_ok-flags.flags in
+    let flags = lent c.deref-2.result.now in
+    let merged : IsMerged lists false flags = subst (λ (them : List (Bor Flag)). IsMerged lists false (lent them)) (sym c.deref-2.ensures.value) c.in_ok-flags.ensures.ok in
     IfOk-weaker c.store_flags.result (IsMade (FlagsStored container dir flags)) (IsMade (StoredGives container dir inputs))
     (λ output made. made_next (FirstRefused (IsOwnCache container) (IsNoOwnCache container) inputs) (AreAccepted (IsOwnCache container) (IsNoOwnCache container) inputs) (ListsStored container dir names)
     lists (subst (AreAccepted (IsOwnCache container) (IsNoOwnCache container) inputs) (sym c.deref.ensures.value) c.in_ok-lists.ensures.ok) output
-    (made_next (Clashing names lists false) (IsMerged lists false) (FlagsStored container dir) flags c.in_ok-flags.ensures.ok output made))
+    (made_next (Clashing names lists false) (IsMerged lists false) (FlagsStored container dir) flags merged output made))
     c.store_flags.ensures.ok
 
 pub returns-clause-err : goal.returns-clause-err
@@ -50,9 +52,10 @@ returns-clause-err c =
     let inputs = inputs_of c.args.inputs.now in
     let names = map (λ (input : Given). input.name) inputs in
     let lists = c.deref.result.now in
-    let flags = c.in_ok-flags.flags in
+    let flags = lent c.deref-2.result.now in
+    let merged : IsMerged lists false flags = subst (λ (them : List (Bor Flag)). IsMerged lists false (lent them)) (sym c.deref-2.ensures.value) c.in_ok-flags.ensures.ok in
     IfErr-weaker c.store_flags.result (IfRefused (λ file what. FlagsStored container dir flags (Refused file what))) (IfRefused (λ file what. StoredGives container dir inputs (Refused file what)))
     (λ halted refused. halted_next (FirstRefused (IsOwnCache container) (IsNoOwnCache container) inputs) (AreAccepted (IsOwnCache container) (IsNoOwnCache container) inputs) (ListsStored container dir names)
     lists (subst (AreAccepted (IsOwnCache container) (IsNoOwnCache container) inputs) (sym c.deref.ensures.value) c.in_ok-lists.ensures.ok) halted
-    (halted_next (Clashing names lists false) (IsMerged lists false) (FlagsStored container dir) flags c.in_ok-flags.ensures.ok halted refused))
+    (halted_next (Clashing names lists false) (IsMerged lists false) (FlagsStored container dir) flags merged halted refused))
     c.store_flags.ensures.err

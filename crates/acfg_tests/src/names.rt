@@ -1,4 +1,6 @@
-use crate::{ContainerName, Entry, Kind, Name, OutOfMemory, PackageName, Release, is_path};
+//! Names, paths and releases.
+
+use acfg_base::{ContainerName, Entry, Kind, Name, OutOfMemory, PackageName, Release, is_path};
 use std::alloc::Global;
 use std::process::Abort;
 use std::test::Fail;

@@ -1,6 +1,6 @@
 //! Hashes that others have published or computed.
 
-use crate::{bucket, flag_bucket, sip, table_size};
+use acfg_sip::{bucket, flag_bucket, sip, table_size};
 use std::test::Fail;
 
 // SipHash-2-4 with the key 00 01 .. 0f of the messages of 0 to 15 bytes 00 01 .., the first
