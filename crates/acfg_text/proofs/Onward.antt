@@ -11,7 +11,7 @@ use Rattle.acfg_text.specs.declared.fault.TextWhat.TheVariants.{Unexpected}
 use Rattle.acfg_text.specs.Trees.{tree}
 use Rattle.acfg_text.specs.Terminals.{Lexeme, Terminal, terminal_of}
 use Rattle.acfg_text.specs.Machine.{at_field, st, fault, step_at, run, begin}
-use Rattle.acfg_text.specs.Reading.{terminal_at, ahead, seen_of, IsNext, NoField, ReadsField, FailsAll, FailsNext, ReadsAll}
+use Rattle.acfg_text.specs.Reading.{cursor, terminal_at, ahead, seen_of, IsNext, NoField, ReadsField, FailsAll, FailsNext, ReadsAll}
 use Rattle.acfg_text.specs.Progress.{Rest, rest_of, HasRead, Reads, IsAll, IsReadable, Fails}
 use Rattle.acfg_text.proofs.Parts.{fails_step}
 use Rattle.acfg_text.proofs.Wholes.{refuses, spells}
@@ -31,7 +31,7 @@ module _ (tokens : List Lexeme) (end at : ℕ) (rest : Rest) (is : rest ≡ rest
   read_to text items read = subst (λ r. HasRead text items r) is read
 
   -- one more field
-  pub reads_next : (next : ℕ) (field : Item) → ReadsField tokens end 0 at field next → Reads rest field (rest_of tokens end next)
+  pub reads_next : (next : ℕ) (field : Item) → ReadsField (cursor tokens end 0 at) field next → Reads rest field (rest_of tokens end next)
   reads_next next field reads text items read =
       let h : HasRead text items (rest_of tokens end at) = read_to text items read in
       record { found = h.found; lexes = h.lexes; ends = h.ends; leads = h.leads ∙ reads items [] refl }

@@ -22,7 +22,7 @@ use Rattle.acfg_text.specs.declared.token.TokenKind.TheVariants as kinds
 use Rattle.acfg_text.specs.TextFaults.{is_quoted, BeginsUnquoted}
 use Rattle.acfg_text.specs.Escapes.{spelled}
 use Rattle.acfg_text.specs.Machine.{Head, Slot, single, among, Frame, frame, Mode, at_field, behind_field, behind_name, behind_colon, in_list, at_item, behind_item, in_text, State, st, fault, settle, close_list, opened, same, closed_by, refused, step_by, step, step_at, finish, carry, run, Waits, waits_name, waits_colon, waits_list, waits_item}
-use Rattle.acfg_text.specs.Reading.{terminal_at, ahead, seen_of, IsNext, NoField, ClosesList, ClosesNoList, NoClosing, IsNoOpening, SkipsEnd, Leads, FailsBy, ReadsFields, FailsFields, ReadsField, FailsField, ReadsHeld, FailsHeld, ReadsColon, FailsColon, ReadsList, FailsList, ReadsValue, FailsValue, ReadsElement, FailsElement, FailsScalar, ClosesBy, FailsToClose, list_state, GoesOn, FailsToGoOn, Joins}
+use Rattle.acfg_text.specs.Reading.{cursor, terminal_at, ahead, seen_of, IsNext, NoField, ClosesList, ClosesNoList, NoClosing, IsNoOpening, SkipsEnd, Leads, FailsBy, ReadsFields, FailsFields, ReadsField, FailsField, ReadsHeld, FailsHeld, ReadsColon, FailsColon, ReadsList, FailsList, ReadsValue, FailsValue, ReadsElement, FailsElement, FailsScalar, ClosesBy, FailsToClose, list_state, GoesOn, FailsToGoOn, Joins}
 use Rattle.acfg_text.proofs.Leading.{Unquoted, same_itself, open_step, settled_run}
 
 -- one step of the machine
@@ -64,38 +64,38 @@ unfolding run
 skips_end tokens at none end top [] = ap (λ l. run true end l (st behind_field top [])) none ∙ ap (λ l. run true end l (st at_field top [])) (sym none)
 skips_end tokens at none end top (f ∷ frames) = ap (λ l. run true end l (st behind_field top (f ∷ frames))) none ∙ ap (λ l. run true end l (st at_field top (f ∷ frames))) (sym none)
 
-pub field_read : (tokens : List Lexeme) (end depth at next behind : ℕ) (name : Seen) (listed : Bool) (values : List Value) (i : Item) → IsNext tokens at name → name.class ≡ c.Word → ReadsHeld tokens end depth (at + 1) listed values next → SkipsEnd tokens next behind
-    → item name.text.now name.place listed values ≡ i → ReadsField tokens end depth at i behind
+pub field_read : (tokens : List Lexeme) (end depth at next behind : ℕ) (name : Seen) (listed : Bool) (values : List Value) (i : Item) → IsNext tokens at name → name.class ≡ c.Word → ReadsHeld (cursor tokens end depth (at + 1)) listed values next → SkipsEnd tokens next behind
+    → item name.text.now name.place listed values ≡ i → ReadsField (cursor tokens end depth at) i behind
 field_read tokens end depth at next behind name listed values i is_next word held skips is top frames d =
     let h : Head = record { name = name.text.now; place = name.place } in
     leads_step tokens end at name (st at_field top frames) (st (behind_name h) top frames) is_next (class_step at_field name c.Word top frames word)
     ∙ held h top frames d ∙ skips end (top ++ item name.text.now name.place listed values ∷ []) frames ∙ ap (λ j. run true end (ahead tokens behind) (st at_field (top ++ j ∷ []) frames)) is
 
-pub field_fails : (tokens : List Lexeme) (end depth at : ℕ) (name : Seen) (p : ℕ) (w : TextWhat) → IsNext tokens at name → name.class ≡ c.Word → FailsHeld tokens end depth (at + 1) p w → FailsField tokens end depth at p w
+pub field_fails : (tokens : List Lexeme) (end depth at : ℕ) (name : Seen) (p : ℕ) (w : TextWhat) → IsNext tokens at name → name.class ≡ c.Word → FailsHeld (cursor tokens end depth (at + 1)) p w → FailsField (cursor tokens end depth at) p w
 field_fails tokens end depth at name p w is_next word fails top frames d =
     let h : Head = record { name = name.text.now; place = name.place } in
     leads_step tokens end at name (st at_field top frames) (st (behind_name h) top frames) is_next (class_step at_field name c.Word top frames word) ∙ fails h top frames d
 
 -- behind a name
-pub held_colon : (tokens : List Lexeme) (end depth at next : ℕ) (t : Seen) (listed : Bool) (values : List Value) → IsNext tokens at t → t.class ≡ c.Colon → ReadsColon tokens end depth (at + 1) listed values next → ReadsHeld tokens end depth at listed values next
+pub held_colon : (tokens : List Lexeme) (end depth at next : ℕ) (t : Seen) (listed : Bool) (values : List Value) → IsNext tokens at t → t.class ≡ c.Colon → ReadsColon (cursor tokens end depth (at + 1)) listed values next → ReadsHeld (cursor tokens end depth at) listed values next
 held_colon tokens end depth at next t listed values is_next e reads h top frames d =
     leads_step tokens end at t (st (behind_name h) top frames) (st (behind_colon h) top frames) is_next (class_step (behind_name h) t c.Colon top frames e) ∙ reads h top frames d
 
-pub held_colon_fails : (tokens : List Lexeme) (end depth at : ℕ) (t : Seen) (p : ℕ) (w : TextWhat) → IsNext tokens at t → t.class ≡ c.Colon → FailsColon tokens end depth (at + 1) p w → FailsHeld tokens end depth at p w
+pub held_colon_fails : (tokens : List Lexeme) (end depth at : ℕ) (t : Seen) (p : ℕ) (w : TextWhat) → IsNext tokens at t → t.class ≡ c.Colon → FailsColon (cursor tokens end depth (at + 1)) p w → FailsHeld (cursor tokens end depth at) p w
 held_colon_fails tokens end depth at t p w is_next e fails h top frames d =
     leads_step tokens end at t (st (behind_name h) top frames) (st (behind_colon h) top frames) is_next (class_step (behind_name h) t c.Colon top frames e) ∙ fails h top frames d
 
-pub held_message : (tokens : List Lexeme) (end depth at next : ℕ) (value : Value) → ((colon : Bool) → ReadsValue tokens end colon depth at value next) → ReadsHeld tokens end depth at false (value ∷ []) next
+pub held_message : (tokens : List Lexeme) (end depth at next : ℕ) (value : Value) → ((colon : Bool) → ReadsValue (cursor tokens end depth at) colon value next) → ReadsHeld (cursor tokens end depth at) false (value ∷ []) next
 held_message tokens end depth at next value reads h top frames d = reads false (behind_name h) h single top frames waits_name d
 
-pub held_message_fails : (tokens : List Lexeme) (end depth at p : ℕ) (w : TextWhat) → ((colon : Bool) → FailsValue tokens end colon depth at p w) → FailsHeld tokens end depth at p w
+pub held_message_fails : (tokens : List Lexeme) (end depth at p : ℕ) (w : TextWhat) → ((colon : Bool) → FailsValue (cursor tokens end depth at) colon p w) → FailsHeld (cursor tokens end depth at) p w
 held_message_fails tokens end depth at p w fails h top frames d = fails false (behind_name h) h single top frames waits_name d
 
-pub held_list : (tokens : List Lexeme) (end depth at next : ℕ) (t : Seen) (values : List Value) → IsNext tokens at t → t.class ≡ c.OpenList → ReadsList tokens end false depth (at + 1) values next → ReadsHeld tokens end depth at true values next
+pub held_list : (tokens : List Lexeme) (end depth at next : ℕ) (t : Seen) (values : List Value) → IsNext tokens at t → t.class ≡ c.OpenList → ReadsList (cursor tokens end depth (at + 1)) false values next → ReadsHeld (cursor tokens end depth at) true values next
 held_list tokens end depth at next t values is_next e reads h top frames d =
     leads_step tokens end at t (st (behind_name h) top frames) (st (in_list h false) top frames) is_next (class_step (behind_name h) t c.OpenList top frames e) ∙ reads h top frames d
 
-pub held_list_fails : (tokens : List Lexeme) (end depth at : ℕ) (t : Seen) (p : ℕ) (w : TextWhat) → IsNext tokens at t → t.class ≡ c.OpenList → FailsList tokens end false depth (at + 1) p w → FailsHeld tokens end depth at p w
+pub held_list_fails : (tokens : List Lexeme) (end depth at : ℕ) (t : Seen) (p : ℕ) (w : TextWhat) → IsNext tokens at t → t.class ≡ c.OpenList → FailsList (cursor tokens end depth (at + 1)) false p w → FailsHeld (cursor tokens end depth at) p w
 held_list_fails tokens end depth at t p w is_next e fails h top frames d =
     leads_step tokens end at t (st (behind_name h) top frames) (st (in_list h false) top frames) is_next (class_step (behind_name h) t c.OpenList top frames e) ∙ fails h top frames d
 
@@ -105,31 +105,31 @@ named_none h (c.Open b) t top frames x y z = absurd (y b refl)
 named_none h c.OpenList t top frames x y z = absurd (z refl)
 named_none h _ t top frames x y z = refl
 
-pub held_none : (tokens : List Lexeme) (end depth at : ℕ) (t : Seen) → IsNext tokens at t → (t.class ≡ c.Colon → ⊥) → ((b : Bracket) → t.class ≡ c.Open b → ⊥) → (t.class ≡ c.OpenList → ⊥) → FailsHeld tokens end depth at t.place Unexpected
+pub held_none : (tokens : List Lexeme) (end depth at : ℕ) (t : Seen) → IsNext tokens at t → (t.class ≡ c.Colon → ⊥) → ((b : Bracket) → t.class ≡ c.Open b → ⊥) → (t.class ≡ c.OpenList → ⊥) → FailsHeld (cursor tokens end depth at) t.place Unexpected
 held_none tokens end depth at t is_next x y z h top frames d = fails_step tokens end at t (st (behind_name h) top frames) t.place Unexpected is_next (named_none h t.class (seen_of t) top frames x y z)
 
-pub held_end : (tokens : List Lexeme) (end depth at : ℕ) → ahead tokens at ≡ [] → FailsHeld tokens end depth at end Unexpected
+pub held_end : (tokens : List Lexeme) (end depth at : ℕ) → ahead tokens at ≡ [] → FailsHeld (cursor tokens end depth at) end Unexpected
 held_end tokens end depth at none h top frames d = fails_end tokens end at (st (behind_name h) top frames) none refl
 
 -- behind a colon
-pub colon_value : (tokens : List Lexeme) (end depth at next : ℕ) (value : Value) → ReadsValue tokens end true depth at value next → ReadsColon tokens end depth at false (value ∷ []) next
+pub colon_value : (tokens : List Lexeme) (end depth at next : ℕ) (value : Value) → ReadsValue (cursor tokens end depth at) true value next → ReadsColon (cursor tokens end depth at) false (value ∷ []) next
 colon_value tokens end depth at next value reads h top frames d = reads (behind_colon h) h single top frames waits_colon d
 
-pub colon_message_fails : (tokens : List Lexeme) (end depth at p : ℕ) (w : TextWhat) → ((colon : Bool) → FailsValue tokens end colon depth at p w) → FailsColon tokens end depth at p w
+pub colon_message_fails : (tokens : List Lexeme) (end depth at p : ℕ) (w : TextWhat) → ((colon : Bool) → FailsValue (cursor tokens end depth at) colon p w) → FailsColon (cursor tokens end depth at) p w
 colon_message_fails tokens end depth at p w fails h top frames d = fails true (behind_colon h) h single top frames waits_colon d
 
-pub colon_scalar_fails : (tokens : List Lexeme) (end depth at p : ℕ) (w : TextWhat) → FailsScalar tokens end depth at p w → FailsColon tokens end depth at p w
+pub colon_scalar_fails : (tokens : List Lexeme) (end depth at p : ℕ) (w : TextWhat) → FailsScalar (cursor tokens end depth at) p w → FailsColon (cursor tokens end depth at) p w
 colon_scalar_fails tokens end depth at p w fails h top frames d = (fails h [] top frames d).0
 
-pub colon_list : (tokens : List Lexeme) (end depth at next : ℕ) (t : Seen) (values : List Value) → IsNext tokens at t → t.class ≡ c.OpenList → ReadsList tokens end true depth (at + 1) values next → ReadsColon tokens end depth at true values next
+pub colon_list : (tokens : List Lexeme) (end depth at next : ℕ) (t : Seen) (values : List Value) → IsNext tokens at t → t.class ≡ c.OpenList → ReadsList (cursor tokens end depth (at + 1)) true values next → ReadsColon (cursor tokens end depth at) true values next
 colon_list tokens end depth at next t values is_next e reads h top frames d =
     leads_step tokens end at t (st (behind_colon h) top frames) (st (in_list h true) top frames) is_next (class_step (behind_colon h) t c.OpenList top frames e) ∙ reads h top frames d
 
-pub colon_list_fails : (tokens : List Lexeme) (end depth at : ℕ) (t : Seen) (p : ℕ) (w : TextWhat) → IsNext tokens at t → t.class ≡ c.OpenList → FailsList tokens end true depth (at + 1) p w → FailsColon tokens end depth at p w
+pub colon_list_fails : (tokens : List Lexeme) (end depth at : ℕ) (t : Seen) (p : ℕ) (w : TextWhat) → IsNext tokens at t → t.class ≡ c.OpenList → FailsList (cursor tokens end depth (at + 1)) true p w → FailsColon (cursor tokens end depth at) p w
 colon_list_fails tokens end depth at t p w is_next e fails h top frames d =
     leads_step tokens end at t (st (behind_colon h) top frames) (st (in_list h true) top frames) is_next (class_step (behind_colon h) t c.OpenList top frames e) ∙ fails h top frames d
 
-pub colon_end : (tokens : List Lexeme) (end depth at : ℕ) → ahead tokens at ≡ [] → FailsColon tokens end depth at end Unexpected
+pub colon_end : (tokens : List Lexeme) (end depth at : ℕ) → ahead tokens at ≡ [] → FailsColon (cursor tokens end depth at) end Unexpected
 colon_end tokens end depth at none h top frames d = fails_end tokens end at (st (behind_colon h) top frames) none refl
 
 pub no_opening : (class : Class) → ((b : Bracket) → class ≡ c.Open b → ⊥) → (class ≡ c.OpenList → ⊥) → IsNoOpening class
@@ -138,7 +138,7 @@ no_opening c.OpenList x y = absurd (y refl)
 no_opening _ x y = tt
 
 -- scalars
-pub scalar_word : (tokens : List Lexeme) (end depth at : ℕ) (t : Seen) → IsNext tokens at t → t.class ≡ c.Word → ReadsValue tokens end true depth at (v.Word t.place t.text.now) (at + 1)
+pub scalar_word : (tokens : List Lexeme) (end depth at : ℕ) (t : Seen) → IsNext tokens at t → t.class ≡ c.Word → ReadsValue (cursor tokens end depth at) true (v.Word t.place t.text.now) (at + 1)
 scalar_word tokens end depth at t is_next e mode h slot top frames waits d = leads_step tokens end at t (st mode top frames) (settle h slot (v.Word t.place t.text.now) top frames) is_next (class_step mode t c.Word top frames e ∙ by_mode waits)
   where
     by_mode : {mode : Mode} {h : Head} {slot : Slot} → Waits mode h slot true → step_at true mode c.Word (terminal c.Word t.place t.text.now) top frames ≡ Ok (settle h slot (v.Word t.place t.text.now) top frames)
@@ -146,7 +146,7 @@ scalar_word tokens end depth at t is_next e mode h slot top frames waits d = lea
     by_mode waits_list = refl
     by_mode waits_item = refl
 
-pub scalar_number : (tokens : List Lexeme) (end depth at : ℕ) (t : Seen) → IsNext tokens at t → t.class ≡ c.Number → ReadsValue tokens end true depth at (v.Number t.place t.text.now) (at + 1)
+pub scalar_number : (tokens : List Lexeme) (end depth at : ℕ) (t : Seen) → IsNext tokens at t → t.class ≡ c.Number → ReadsValue (cursor tokens end depth at) true (v.Number t.place t.text.now) (at + 1)
 scalar_number tokens end depth at t is_next e mode h slot top frames waits d = leads_step tokens end at t (st mode top frames) (settle h slot (v.Number t.place t.text.now) top frames) is_next (class_step mode t c.Number top frames e ∙ by_mode waits)
   where
     by_mode : {mode : Mode} {h : Head} {slot : Slot} → Waits mode h slot true → step_at true mode c.Number (terminal c.Number t.place t.text.now) top frames ≡ Ok (settle h slot (v.Number t.place t.text.now) top frames)
@@ -172,7 +172,7 @@ item_none h old _ t top frames x y z o = refl
 not_open : (class : Class) → IsNoOpening class → (b : Bracket) → class ≡ c.Open b → ⊥
 not_open class o b e = subst IsNoOpening e o
 
-pub scalar_none : (tokens : List Lexeme) (end depth at : ℕ) (t : Seen) → IsNext tokens at t → (t.class ≡ c.Word → ⊥) → (t.class ≡ c.Number → ⊥) → (t.class ≡ c.Quoted → ⊥) → IsNoOpening t.class → FailsScalar tokens end depth at t.place Unexpected
+pub scalar_none : (tokens : List Lexeme) (end depth at : ℕ) (t : Seen) → IsNext tokens at t → (t.class ≡ c.Word → ⊥) → (t.class ≡ c.Number → ⊥) → (t.class ≡ c.Quoted → ⊥) → IsNoOpening t.class → FailsScalar (cursor tokens end depth at) t.place Unexpected
 scalar_none tokens end depth at t is_next x y z o h old top frames d = (
   fails_step tokens end at t (st (behind_colon h) top frames) t.place Unexpected is_next (coloned_none h t.class (seen_of t) top frames x y z o),
   fails_step tokens end at t (st (at_item h true old) top frames) t.place Unexpected is_next (item_none h old t.class (seen_of t) top frames x y z (not_open t.class o)),
@@ -197,7 +197,7 @@ settled_text tokens end at h slot place bytes top frames no_quote utf8 = settled
     unquoted [] n = n
     unquoted (t ∷ ts) n = n
 
-pub text_read : (tokens : List Lexeme) (end depth at next : ℕ) (t : Seen) (bytes : List ℕ) → IsNext tokens at t → t.class ≡ c.Quoted → Joins tokens end (spelled t.text.now) (at + 1) bytes next → is_utf8 bytes ≡ true → ReadsValue tokens end true depth at (v.Text t.place bytes) next
+pub text_read : (tokens : List Lexeme) (end depth at next : ℕ) (t : Seen) (bytes : List ℕ) → IsNext tokens at t → t.class ≡ c.Quoted → Joins tokens end (spelled t.text.now) (at + 1) bytes next → is_utf8 bytes ≡ true → ReadsValue (cursor tokens end depth at) true (v.Text t.place bytes) next
 text_read tokens end depth at next t bytes is_next e joins utf8 mode h slot top frames waits d =
     text_begins tokens end at t top frames is_next e waits ∙ joins.leads h slot t.place top frames ∙ settled_text tokens end next h slot t.place bytes top frames joins.ends utf8
 
@@ -206,14 +206,14 @@ unfolding run
 bad_text end h slot place bytes top frames [] n bad = rw bad refl
 bad_text end h slot place bytes top frames (t ∷ ts) n bad = rw (n, bad) refl
 
-pub text_fails : (tokens : List Lexeme) (end depth at next : ℕ) (t : Seen) (bytes : List ℕ) → IsNext tokens at t → t.class ≡ c.Quoted → Joins tokens end (spelled t.text.now) (at + 1) bytes next → is_utf8 bytes ≡ false → FailsScalar tokens end depth at t.place BadUtf8
+pub text_fails : (tokens : List Lexeme) (end depth at next : ℕ) (t : Seen) (bytes : List ℕ) → IsNext tokens at t → t.class ≡ c.Quoted → Joins tokens end (spelled t.text.now) (at + 1) bytes next → is_utf8 bytes ≡ false → FailsScalar (cursor tokens end depth at) t.place BadUtf8
 text_fails tokens end depth at next t bytes is_next e joins bad h old top frames d = (
   text_begins tokens end at t top frames is_next e (waits_colon {h = h}) ∙ joins.leads h single t.place top frames ∙ bad_text end h single t.place bytes top frames (ahead tokens next) joins.ends bad,
   text_begins tokens end at t top frames is_next e (waits_item {h = h} {values = old}) ∙ joins.leads h (among true old) t.place top frames ∙ bad_text end h (among true old) t.place bytes top frames (ahead tokens next) joins.ends bad,
 )
 
 -- lists
-pub list_empty : (tokens : List Lexeme) (end depth at : ℕ) (colon : Bool) → ClosesList tokens at → ReadsList tokens end colon depth at [] (at + 1)
+pub list_empty : (tokens : List Lexeme) (end depth at : ℕ) (colon : Bool) → ClosesList tokens at → ReadsList (cursor tokens end depth at) colon [] (at + 1)
 unfolding run
 list_empty tokens end depth at colon (p, text, next) h top frames d = ap (λ l. run true end l (st (in_list h colon) top frames)) next
 
@@ -250,23 +250,23 @@ pub goes_end : (tokens : List Lexeme) (end at : ℕ) → ahead tokens at ≡ [] 
 goes_end tokens end at none h colon values top frames = fails_end tokens end at (st (behind_item h colon values) top frames) none refl
 
 -- items
-pub element_value : (tokens : List Lexeme) (end depth at next : ℕ) (colon : Bool) (value : Value) → ReadsValue tokens end colon depth at value next → ReadsElement tokens end colon depth at value next
+pub element_value : (tokens : List Lexeme) (end depth at next : ℕ) (colon : Bool) (value : Value) → ReadsValue (cursor tokens end depth at) colon value next → ReadsElement (cursor tokens end depth at) colon value next
 element_value tokens end depth at next colon value reads h old top frames d = reads (at_item h colon old) h (among colon old) top frames waits_item d
 
-pub element_message_fails : (tokens : List Lexeme) (end depth at p : ℕ) (w : TextWhat) (colon : Bool) → ((colon : Bool) → FailsValue tokens end colon depth at p w) → FailsElement tokens end colon depth at p w
+pub element_message_fails : (tokens : List Lexeme) (end depth at p : ℕ) (w : TextWhat) (colon : Bool) → ((colon : Bool) → FailsValue (cursor tokens end depth at) colon p w) → FailsElement (cursor tokens end depth at) colon p w
 element_message_fails tokens end depth at p w colon fails h old top frames d = fails colon (at_item h colon old) h (among colon old) top frames waits_item d
 
 uncoloned_none : (h : Head) (old : List Value) (class : Class) (t : Terminal) (top : List Item) (frames : List Frame) → ((b : Bracket) → class ≡ c.Open b → ⊥) → step_at true (at_item h false old) class t top frames ≡ Err (fault t.place Unexpected)
 uncoloned_none h old (c.Open b) t top frames x = absurd (x b refl)
 uncoloned_none h old _ t top frames x = refl
 
-pub element_none : (tokens : List Lexeme) (end depth at : ℕ) (t : Seen) → IsNext tokens at t → ((b : Bracket) → t.class ≡ c.Open b → ⊥) → FailsElement tokens end false depth at t.place Unexpected
+pub element_none : (tokens : List Lexeme) (end depth at : ℕ) (t : Seen) → IsNext tokens at t → ((b : Bracket) → t.class ≡ c.Open b → ⊥) → FailsElement (cursor tokens end depth at) false t.place Unexpected
 element_none tokens end depth at t is_next x h old top frames d = fails_step tokens end at t (st (at_item h false old) top frames) t.place Unexpected is_next (uncoloned_none h old t.class (seen_of t) top frames x)
 
-pub element_list : (tokens : List Lexeme) (end depth at : ℕ) (colon : Bool) (t : Seen) → IsNext tokens at t → t.class ≡ c.OpenList → FailsElement tokens end colon depth at t.place Unexpected
+pub element_list : (tokens : List Lexeme) (end depth at : ℕ) (colon : Bool) (t : Seen) → IsNext tokens at t → t.class ≡ c.OpenList → FailsElement (cursor tokens end depth at) colon t.place Unexpected
 element_list tokens end depth at colon t is_next e h old top frames d = fails_step tokens end at t (st (at_item h colon old) top frames) t.place Unexpected is_next (class_step (at_item h colon old) t c.OpenList top frames e)
 
-pub element_end : (tokens : List Lexeme) (end depth at : ℕ) (colon : Bool) → ahead tokens at ≡ [] → FailsElement tokens end colon depth at end Unexpected
+pub element_end : (tokens : List Lexeme) (end depth at : ℕ) (colon : Bool) → ahead tokens at ≡ [] → FailsElement (cursor tokens end depth at) colon end Unexpected
 element_end tokens end depth at colon none h old top frames d = fails_end tokens end at (st (at_item h colon old) top frames) none refl
 
 -- messages
@@ -276,7 +276,7 @@ deep_step t b top frames waits_colon e = rw e refl
 deep_step t b top frames waits_list e = rw e refl
 deep_step t b top frames waits_item e = rw e refl
 
-pub message_deep : (tokens : List Lexeme) (end depth at : ℕ) (t : Seen) (b : Bracket) → IsNext tokens at t → t.class ≡ c.Open b → 32 ≤ depth → (colon : Bool) → FailsValue tokens end colon depth at t.place TooDeep
+pub message_deep : (tokens : List Lexeme) (end depth at : ℕ) (t : Seen) (b : Bracket) → IsNext tokens at t → t.class ≡ c.Open b → 32 ≤ depth → (colon : Bool) → FailsValue (cursor tokens end depth at) colon t.place TooDeep
 message_deep tokens end depth at t b is_next e deep colon mode h slot top frames waits d =
     let full : nat_le 32 (length frames) ≡ true = grind (arith, nat_tests) in
     fails_step tokens end at t (st mode top frames) t.place TooDeep is_next (class_step mode t (c.Open b) top frames e ∙ deep_step (terminal (c.Open b) t.place t.text.now) b top frames waits full)
@@ -287,17 +287,17 @@ message_opens tokens end depth at t b {mode = mode} {h = h} {slot = slot} top fr
     let open_still : (true && nat_le 32 (length frames)) ≡ false = grind (arith, nat_tests) in
     leads_step tokens end at t (st mode top frames) (opened h slot b t.place top frames) is_next (class_step mode t (c.Open b) top frames e ∙ open_step true top frames b t.place t.text.now waits open_still)
 
-pub message_read : (tokens : List Lexeme) (end depth at close place : ℕ) (t : Seen) (b : Bracket) (items : List Item) (value : Value) → IsNext tokens at t → t.class ≡ c.Open b → depth < 32 → ReadsFields tokens end (depth + 1) (at + 1) items close → ClosesBy tokens end close b place
-    → v.Message t.place (tree items place) ≡ value → (colon : Bool) → ReadsValue tokens end colon depth at value (close + 1)
+pub message_read : (tokens : List Lexeme) (end depth at close place : ℕ) (t : Seen) (b : Bracket) (items : List Item) (value : Value) → IsNext tokens at t → t.class ≡ c.Open b → depth < 32 → ReadsFields (cursor tokens end (depth + 1) (at + 1)) items close → ClosesBy tokens end close b place
+    → v.Message t.place (tree items place) ≡ value → (colon : Bool) → ReadsValue (cursor tokens end depth at) colon value (close + 1)
 message_read tokens end depth at close place t b items value is_next e shallow fields closes is colon mode h slot top frames waits d =
     message_opens tokens end depth at t b top frames is_next e shallow waits d ∙ fields.leads (frame h slot top t.place b ∷ frames) (omega arith) ∙ closes items (frame h slot top t.place b) frames refl
     ∙ ap (λ x. run true end (ahead tokens (close + 1)) (settle h slot x top frames)) is
 
-pub message_fields_fail : (tokens : List Lexeme) (end depth at : ℕ) (t : Seen) (b : Bracket) (p : ℕ) (w : TextWhat) → IsNext tokens at t → t.class ≡ c.Open b → depth < 32 → FailsFields tokens end (depth + 1) (at + 1) p w → (colon : Bool) → FailsValue tokens end colon depth at p w
+pub message_fields_fail : (tokens : List Lexeme) (end depth at : ℕ) (t : Seen) (b : Bracket) (p : ℕ) (w : TextWhat) → IsNext tokens at t → t.class ≡ c.Open b → depth < 32 → FailsFields (cursor tokens end (depth + 1) (at + 1)) p w → (colon : Bool) → FailsValue (cursor tokens end depth at) colon p w
 message_fields_fail tokens end depth at t b p w is_next e shallow fails colon mode h slot top frames waits d = message_opens tokens end depth at t b top frames is_next e shallow waits d ∙ fails (frame h slot top t.place b ∷ frames) (omega arith)
 
-pub message_close_fails : (tokens : List Lexeme) (end depth at close : ℕ) (t : Seen) (b : Bracket) (items : List Item) (p : ℕ) (w : TextWhat) → IsNext tokens at t → t.class ≡ c.Open b → depth < 32 → ReadsFields tokens end (depth + 1) (at + 1) items close → FailsToClose tokens end close b p w
-    → (colon : Bool) → FailsValue tokens end colon depth at p w
+pub message_close_fails : (tokens : List Lexeme) (end depth at close : ℕ) (t : Seen) (b : Bracket) (items : List Item) (p : ℕ) (w : TextWhat) → IsNext tokens at t → t.class ≡ c.Open b → depth < 32 → ReadsFields (cursor tokens end (depth + 1) (at + 1)) items close → FailsToClose tokens end close b p w
+    → (colon : Bool) → FailsValue (cursor tokens end depth at) colon p w
 message_close_fails tokens end depth at close t b items p w is_next e shallow fields fails colon mode h slot top frames waits d =
     message_opens tokens end depth at t b top frames is_next e shallow waits d ∙ fields.leads (frame h slot top t.place b ∷ frames) (omega arith) ∙ fails items (frame h slot top t.place b) frames refl
 
@@ -332,8 +332,8 @@ pub close_end : (tokens : List Lexeme) (end at : ℕ) (b : Bracket) → ahead to
 close_end tokens end at b none items f frames of_it = fails_end tokens end at (st at_field items (f ∷ frames)) none refl
 
 pub value_read_text : (tokens : List Lexeme) (end depth at next : ℕ) (t : Seen) (bytes text : List ℕ) → IsNext tokens at t → t.class ≡ c.Quoted → Joins tokens end (spelled t.text.now) (at + 1) bytes next → is_utf8 bytes ≡ true → text ≡ bytes
-    → ReadsValue tokens end true depth at (v.Text t.place text) next
-value_read_text tokens end depth at next t bytes text is_next e joins utf8 is = subst (λ b. ReadsValue tokens end true depth at (v.Text t.place b) next) (sym is) (text_read tokens end depth at next t bytes is_next e joins utf8)
+    → ReadsValue (cursor tokens end depth at) true (v.Text t.place text) next
+value_read_text tokens end depth at next t bytes text is_next e joins utf8 is = subst (λ b. ReadsValue (cursor tokens end depth at) true (v.Text t.place b) next) (sym is) (text_read tokens end depth at next t bytes is_next e joins utf8)
 
 -- a quoted token by itself
 pub joins_none : (tokens : List Lexeme) (end : ℕ) (old bytes : List ℕ) (at : ℕ) → bytes ≡ old → BeginsUnquoted (ahead tokens at) → Joins tokens end old at bytes at

@@ -1,6 +1,6 @@
 -- Words of the reader's private contracts and of proofs alone: what its parts read, as runs of the machine.
-use Rattle.std.specs.Prelude.{◌≡◌, ◌≢◌, ℕ, ◌+◌, ◌<◌, ◌≤◌, ◌^◌, Bool, true, false, List, [], ◌∷◌, ◌++◌, length, map, drop}
-use Rattle.std.specs.Prelude.{Ok, Err}
+use Rattle.std.specs.Prelude.{◌≡◌, ◌≢◌, ℕ, ◌+◌, ◌<◌, ◌≤◌, ◌^◌, Bool, true, false, List, [], ◌∷◌, ◌++◌, drop}
+use Rattle.std.specs.Prelude.{length, map, Ok, Err}
 use Rattle.std.specs.List.{All}
 use Rattle.std.specs.Str.{IsAscii}
 use Rattle.acfg_text.specs.declared.classes.Class.{Class}
@@ -82,6 +82,16 @@ abbrev pub list_state : Bool → Head → Bool → List Value → List Item → 
 list_state true h colon values top frames = st (at_item h colon values) top frames
 list_state false h colon values top frames = close_list h values top frames
 
+-- where a reader stands: at a token of a text of this length, with this many messages open
+pub record Cursor : Type 0 where
+  pub tokens : List Lexeme
+  pub end : ℕ
+  pub depth : ℕ
+  pub at : ℕ
+
+abbrev pub cursor : List Lexeme → ℕ → ℕ → ℕ → Cursor
+cursor tokens end depth at = record { tokens = tokens; end = end; depth = depth; at = at }
+
 module _ (tokens : List Lexeme) (end : ℕ) where
   -- the machine goes from one state at a token to another one at a later token
   abbrev pub Leads : ℕ → State → ℕ → State → Type 0
@@ -90,83 +100,9 @@ module _ (tokens : List Lexeme) (end : ℕ) where
   abbrev pub FailsBy : ℕ → State → ℕ → TextWhat → Type 0
   FailsBy from s p w = run true end (ahead tokens from) s ≡ Err (fault p w)
 
-  pub record ReadsFields (depth from : ℕ) (items : List Item) (at : ℕ) : Type 0 where
-    pub leads : (frames : List Frame) → length frames ≡ depth
-        → Leads from (st at_field [] frames) at (st at_field items frames)
-    pub ends : NoField (ahead tokens at)
-
-  abbrev pub FailsFields : ℕ → ℕ → ℕ → TextWhat → Type 0
-  FailsFields depth from p w = (frames : List Frame) → length frames ≡ depth → FailsBy from (st at_field [] frames) p w
-
-  abbrev pub ReadsField : ℕ → ℕ → Item → ℕ → Type 0
-  ReadsField depth from i at =
-      (top : List Item) (frames : List Frame) → length frames ≡ depth
-      → Leads from (st at_field top frames) at (st at_field (top ++ i ∷ []) frames)
-
-  abbrev pub FailsField : ℕ → ℕ → ℕ → TextWhat → Type 0
-  FailsField depth from p w =
-      (top : List Item) (frames : List Frame) → length frames ≡ depth → FailsBy from (st at_field top frames) p w
-
   -- where a field of the text's own is due, whichever were read before
   abbrev pub FailsNext : ℕ → ℕ → TextWhat → Type 0
   FailsNext from p w = (items : List Item) → FailsBy from (st at_field items []) p w
-
-  abbrev pub ReadsHeld : ℕ → ℕ → Bool → List Value → ℕ → Type 0
-  ReadsHeld depth from listed values at = (h : Head) (top : List Item) (frames : List Frame) → length frames ≡ depth
-      → Leads from (st (behind_name h) top frames) at
-      (st behind_field (top ++ item h.name h.place listed values ∷ []) frames)
-
-  abbrev pub FailsHeld : ℕ → ℕ → ℕ → TextWhat → Type 0
-  FailsHeld depth from p w =
-      (h : Head) (top : List Item) (frames : List Frame) → length frames ≡ depth
-      → FailsBy from (st (behind_name h) top frames) p w
-
-  abbrev pub ReadsColon : ℕ → ℕ → Bool → List Value → ℕ → Type 0
-  ReadsColon depth from listed values at = (h : Head) (top : List Item) (frames : List Frame) → length frames ≡ depth
-      → Leads from (st (behind_colon h) top frames) at
-      (st behind_field (top ++ item h.name h.place listed values ∷ []) frames)
-
-  abbrev pub FailsColon : ℕ → ℕ → ℕ → TextWhat → Type 0
-  FailsColon depth from p w =
-      (h : Head) (top : List Item) (frames : List Frame) → length frames ≡ depth
-      → FailsBy from (st (behind_colon h) top frames) p w
-
-  abbrev pub ReadsList : Bool → ℕ → ℕ → List Value → ℕ → Type 0
-  ReadsList colon depth from values at =
-      (h : Head) (top : List Item) (frames : List Frame) → length frames ≡ depth
-      → Leads from (st (in_list h colon) top frames) at (close_list h values top frames)
-
-  abbrev pub FailsList : Bool → ℕ → ℕ → ℕ → TextWhat → Type 0
-  FailsList colon depth from p w =
-      (h : Head) (top : List Item) (frames : List Frame) → length frames ≡ depth
-      → FailsBy from (st (in_list h colon) top frames) p w
-
-  -- a value of this kind where one may come
-  abbrev pub ReadsValue : Bool → ℕ → ℕ → Value → ℕ → Type 0
-  ReadsValue colon depth from value at =
-      (mode : Mode) (h : Head) (slot : Slot) (top : List Item) (frames : List Frame) → Waits mode h slot colon
-      → length frames ≡ depth → Leads from (st mode top frames) at (settle h slot value top frames)
-
-  abbrev pub FailsValue : Bool → ℕ → ℕ → ℕ → TextWhat → Type 0
-  FailsValue colon depth from p w =
-      (mode : Mode) (h : Head) (slot : Slot) (top : List Item) (frames : List Frame) → Waits mode h slot colon
-      → length frames ≡ depth → FailsBy from (st mode top frames) p w
-
-  abbrev pub ReadsElement : Bool → ℕ → ℕ → Value → ℕ → Type 0
-  ReadsElement colon depth from value at =
-      (h : Head) (old : List Value) (top : List Item) (frames : List Frame) → length frames ≡ depth
-      → Leads from (st (at_item h colon old) top frames) at (settle h (among colon old) value top frames)
-
-  abbrev pub FailsElement : Bool → ℕ → ℕ → ℕ → TextWhat → Type 0
-  FailsElement colon depth from p w =
-      (h : Head) (old : List Value) (top : List Item) (frames : List Frame) → length frames ≡ depth
-      → FailsBy from (st (at_item h colon old) top frames) p w
-
-  -- a scalar behind a colon or in a list that stands behind one
-  abbrev pub FailsScalar : ℕ → ℕ → ℕ → TextWhat → Type 0
-  FailsScalar depth from p w =
-      (h : Head) (old : List Value) (top : List Item) (frames : List Frame) → length frames ≡ depth
-      → FailsBy from (st (behind_colon h) top frames) p w × FailsBy from (st (at_item h true old) top frames) p w
 
   abbrev pub ClosesBy : ℕ → Bracket → ℕ → Type 0
   ClosesBy at bracket place = (items : List Item) (f : Frame) (frames : List Frame) → f.bracket ≡ bracket
@@ -200,3 +136,85 @@ module _ (tokens : List Lexeme) (end : ℕ) where
 
   abbrev pub FailsAll : ℕ → TextWhat → Type 0
   FailsAll p w = run true end (map terminal_at tokens) begin ≡ Err (fault p w)
+
+module _ (from : Cursor) where
+  -- from the cursor on, in one state, the machine goes to another one at a later token
+  abbrev pub Goes : State → ℕ → State → Type 0
+  Goes s at r = Leads from.tokens from.end from.at s at r
+
+  abbrev pub Halts : State → ℕ → TextWhat → Type 0
+  Halts s p w = FailsBy from.tokens from.end from.at s p w
+
+  pub record ReadsFields (items : List Item) (at : ℕ) : Type 0 where
+    pub leads : (frames : List Frame) → length frames ≡ from.depth
+        → Goes (st at_field [] frames) at (st at_field items frames)
+    pub ends : NoField (ahead from.tokens at)
+
+  abbrev pub FailsFields : ℕ → TextWhat → Type 0
+  FailsFields p w = (frames : List Frame) → length frames ≡ from.depth → Halts (st at_field [] frames) p w
+
+  abbrev pub ReadsField : Item → ℕ → Type 0
+  ReadsField i at =
+      (top : List Item) (frames : List Frame) → length frames ≡ from.depth
+      → Goes (st at_field top frames) at (st at_field (top ++ i ∷ []) frames)
+
+  abbrev pub FailsField : ℕ → TextWhat → Type 0
+  FailsField p w =
+      (top : List Item) (frames : List Frame) → length frames ≡ from.depth → Halts (st at_field top frames) p w
+
+  abbrev pub ReadsHeld : Bool → List Value → ℕ → Type 0
+  ReadsHeld listed values at = (h : Head) (top : List Item) (frames : List Frame) → length frames ≡ from.depth
+      → Goes (st (behind_name h) top frames) at
+      (st behind_field (top ++ item h.name h.place listed values ∷ []) frames)
+
+  abbrev pub FailsHeld : ℕ → TextWhat → Type 0
+  FailsHeld p w =
+      (h : Head) (top : List Item) (frames : List Frame) → length frames ≡ from.depth
+      → Halts (st (behind_name h) top frames) p w
+
+  abbrev pub ReadsColon : Bool → List Value → ℕ → Type 0
+  ReadsColon listed values at = (h : Head) (top : List Item) (frames : List Frame) → length frames ≡ from.depth
+      → Goes (st (behind_colon h) top frames) at
+      (st behind_field (top ++ item h.name h.place listed values ∷ []) frames)
+
+  abbrev pub FailsColon : ℕ → TextWhat → Type 0
+  FailsColon p w =
+      (h : Head) (top : List Item) (frames : List Frame) → length frames ≡ from.depth
+      → Halts (st (behind_colon h) top frames) p w
+
+  abbrev pub ReadsList : Bool → List Value → ℕ → Type 0
+  ReadsList colon values at =
+      (h : Head) (top : List Item) (frames : List Frame) → length frames ≡ from.depth
+      → Goes (st (in_list h colon) top frames) at (close_list h values top frames)
+
+  abbrev pub FailsList : Bool → ℕ → TextWhat → Type 0
+  FailsList colon p w =
+      (h : Head) (top : List Item) (frames : List Frame) → length frames ≡ from.depth
+      → Halts (st (in_list h colon) top frames) p w
+
+  -- a value of this kind where one may come
+  abbrev pub ReadsValue : Bool → Value → ℕ → Type 0
+  ReadsValue colon value at =
+      (mode : Mode) (h : Head) (slot : Slot) (top : List Item) (frames : List Frame) → Waits mode h slot colon
+      → length frames ≡ from.depth → Goes (st mode top frames) at (settle h slot value top frames)
+
+  abbrev pub FailsValue : Bool → ℕ → TextWhat → Type 0
+  FailsValue colon p w =
+      (mode : Mode) (h : Head) (slot : Slot) (top : List Item) (frames : List Frame) → Waits mode h slot colon
+      → length frames ≡ from.depth → Halts (st mode top frames) p w
+
+  abbrev pub ReadsElement : Bool → Value → ℕ → Type 0
+  ReadsElement colon value at =
+      (h : Head) (old : List Value) (top : List Item) (frames : List Frame) → length frames ≡ from.depth
+      → Goes (st (at_item h colon old) top frames) at (settle h (among colon old) value top frames)
+
+  abbrev pub FailsElement : Bool → ℕ → TextWhat → Type 0
+  FailsElement colon p w =
+      (h : Head) (old : List Value) (top : List Item) (frames : List Frame) → length frames ≡ from.depth
+      → Halts (st (at_item h colon old) top frames) p w
+
+  -- a scalar behind a colon or in a list that stands behind one
+  abbrev pub FailsScalar : ℕ → TextWhat → Type 0
+  FailsScalar p w =
+      (h : Head) (old : List Value) (top : List Item) (frames : List Frame) → length frames ≡ from.depth
+      → Halts (st (behind_colon h) top frames) p w × Halts (st (at_item h true old) top frames) p w

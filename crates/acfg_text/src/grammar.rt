@@ -6,7 +6,7 @@ ghost use Rattle.std.specs.Bool.{OnTrue, OnFalse};
 ghost use Rattle.std.specs.Str.{IsAscii};
 ghost use Rattle.acfg_text.specs.Escapes.{spelled};
 ghost use Rattle.acfg_text.specs.TextFaults.{is_quoted, IfAt, BeginsUnquoted};
-ghost use Rattle.acfg_text.specs.Reading.{ahead, ArePlain, seen_of, NoField, IsNext, ReadsFields, FailsFields};
+ghost use Rattle.acfg_text.specs.Reading.{cursor, ahead, ArePlain, seen_of, NoField, IsNext, ReadsFields, FailsFields};
 ghost use Rattle.acfg_text.specs.Reading.{ReadsField, FailsField, ReadsHeld, FailsHeld, ReadsColon, FailsColon};
 ghost use Rattle.acfg_text.specs.Reading.{ReadsList, FailsList, ReadsValue, FailsValue, ReadsElement, FailsElement};
 ghost use Rattle.acfg_text.specs.Reading.{ClosesBy, FailsToClose, GoesOn, FailsToGoOn, ClosesList, ClosesNoList};
@@ -39,9 +39,9 @@ fn read_fields(
     requires plain { ArePlain tokens.now }
     requires depth { depth ≤ 32 }
     requires within { from ≤ length tokens.now }
-    ensures ok { IfOk result (λ r. ReadsFields tokens.now end depth from r.0 r.1) }
+    ensures ok { IfOk result (λ r. ReadsFields (cursor tokens.now end depth from) r.0 r.1) }
     ensures within { IfOk result (λ r. (from ≤ r.1) × (r.1 ≤ length tokens.now)) }
-    ensures err { IfErr result (λ failure. IfAt failure (FailsFields tokens.now end depth from)) }
+    ensures err { IfErr result (λ failure. IfAt failure (FailsFields (cursor tokens.now end depth from))) }
 {
     let mut items = Items::new(alloc);
     let mut at = from;
@@ -69,9 +69,9 @@ pub fn read_field(
     requires next { IsNext tokens.now at name }
     requires word { name.class ≡ Class.Word }
     requires ascii { IsAscii name.text.now }
-    ensures ok { IfOk result (λ r. ReadsField tokens.now end depth at r.0 r.1) }
+    ensures ok { IfOk result (λ r. ReadsField (cursor tokens.now end depth at) r.0 r.1) }
     ensures within { IfOk result (λ r. (at < r.1) × (r.1 ≤ length tokens.now)) }
-    ensures err { IfErr result (λ failure. IfAt failure (FailsField tokens.now end depth at)) }
+    ensures err { IfErr result (λ failure. IfAt failure (FailsField (cursor tokens.now end depth at))) }
 {
     let (listed, values, next) = read_held(alloc, tokens, end, at + 1, depth)?;
     let text = text_of(alloc, name.text)?;
@@ -95,9 +95,9 @@ fn read_held(
 ) -> Result<(bool, Items<Value>, usize), TextFault>
     requires plain { ArePlain tokens.now }
     requires depth { depth ≤ 32 }
-    ensures ok { IfOk result (λ r. ReadsHeld tokens.now end depth at r.0 r.1 r.2) }
+    ensures ok { IfOk result (λ r. ReadsHeld (cursor tokens.now end depth at) r.0 r.1 r.2) }
     ensures within { IfOk result (λ r. (at < r.2) × (r.2 ≤ length tokens.now)) }
-    ensures err { IfErr result (λ failure. IfAt failure (FailsHeld tokens.now end depth at)) }
+    ensures err { IfErr result (λ failure. IfAt failure (FailsHeld (cursor tokens.now end depth at))) }
 {
     let Some(seen) = peek(tokens, at) else {
         return Err(TextFault::At(end, TextWhat::Unexpected));
@@ -130,9 +130,9 @@ fn read_valued(
 ) -> Result<(bool, Items<Value>, usize), TextFault>
     requires plain { ArePlain tokens.now }
     requires depth { depth ≤ 32 }
-    ensures ok { IfOk result (λ r. ReadsColon tokens.now end depth at r.0 r.1 r.2) }
+    ensures ok { IfOk result (λ r. ReadsColon (cursor tokens.now end depth at) r.0 r.1 r.2) }
     ensures within { IfOk result (λ r. (at < r.2) × (r.2 ≤ length tokens.now)) }
-    ensures err { IfErr result (λ failure. IfAt failure (FailsColon tokens.now end depth at)) }
+    ensures err { IfErr result (λ failure. IfAt failure (FailsColon (cursor tokens.now end depth at))) }
 {
     let Some(seen) = peek(tokens, at) else {
         return Err(TextFault::At(end, TextWhat::Unexpected));
@@ -166,9 +166,9 @@ fn read_list(
     requires plain { ArePlain tokens.now }
     requires depth { depth ≤ 32 }
     requires within { from ≤ length tokens.now }
-    ensures ok { IfOk result (λ r. ReadsList tokens.now end colon depth from r.0 r.1) }
+    ensures ok { IfOk result (λ r. ReadsList (cursor tokens.now end depth from) colon r.0 r.1) }
     ensures within { IfOk result (λ r. (from ≤ r.1) × (r.1 ≤ length tokens.now)) }
-    ensures err { IfErr result (λ failure. IfAt failure (FailsList tokens.now end colon depth from)) }
+    ensures err { IfErr result (λ failure. IfAt failure (FailsList (cursor tokens.now end depth from) colon)) }
 {
     let mut values = Items::new(alloc);
     if closes_list(tokens, from) {
@@ -197,9 +197,9 @@ fn read_element(
 ) -> Result<(Value, usize), TextFault>
     requires plain { ArePlain tokens.now }
     requires depth { depth ≤ 32 }
-    ensures ok { IfOk result (λ r. ReadsElement tokens.now end colon depth at r.0 r.1) }
+    ensures ok { IfOk result (λ r. ReadsElement (cursor tokens.now end depth at) colon r.0 r.1) }
     ensures within { IfOk result (λ r. (at < r.1) × (r.1 ≤ length tokens.now)) }
-    ensures err { IfErr result (λ failure. IfAt failure (FailsElement tokens.now end colon depth at)) }
+    ensures err { IfErr result (λ failure. IfAt failure (FailsElement (cursor tokens.now end depth at) colon)) }
 {
     let Some(seen) = peek(tokens, at) else {
         return Err(TextFault::At(end, TextWhat::Unexpected));
@@ -235,10 +235,10 @@ fn read_message(
     requires within { at < length tokens.now }
     requires next { IsNext tokens.now at opening }
     requires opens { opening.class ≡ Class.Open bracket }
-    ensures ok { IfOk result (λ r. (colon : Bool) → ReadsValue tokens.now end colon depth at r.0 r.1) }
+    ensures ok { IfOk result (λ r. (colon : Bool) → ReadsValue (cursor tokens.now end depth at) colon r.0 r.1) }
     ensures within { IfOk result (λ r. (at < r.1) × (r.1 ≤ length tokens.now)) }
     ensures err { IfErr result (λ failure.
-        IfAt failure (λ p w. (colon : Bool) → FailsValue tokens.now end colon depth at p w)) }
+        IfAt failure (λ p w. (colon : Bool) → FailsValue (cursor tokens.now end depth at) colon p w)) }
 {
     if depth >= MOST_OPEN {
         return Err(TextFault::At(opening.place, TextWhat::TooDeep));
@@ -314,10 +314,10 @@ fn read_scalar(
     requires next { IsNext tokens.now at seen }
     requires ascii { is_quoted seen.class ≡ false → IsAscii seen.text.now }
     requires opens { IsNoOpening seen.class }
-    ensures ok { IfOk result (λ r. (depth : ℕ) → ReadsValue tokens.now end true depth at r.0 r.1) }
+    ensures ok { IfOk result (λ r. (depth : ℕ) → ReadsValue (cursor tokens.now end depth at) true r.0 r.1) }
     ensures within { IfOk result (λ r. (at < r.1) × (r.1 ≤ length tokens.now)) }
     ensures err { IfErr result (λ failure.
-        IfAt failure (λ p w. (depth : ℕ) → FailsScalar tokens.now end depth at p w)) }
+        IfAt failure (λ p w. (depth : ℕ) → FailsScalar (cursor tokens.now end depth at) p w)) }
 {
     match seen.class {
         Class::Word => Ok((Value::Word(seen.place, text_of(alloc, seen.text)?), at + 1)),
@@ -345,10 +345,10 @@ fn read_text(
     requires within { at < length tokens.now }
     requires next { IsNext tokens.now at first }
     requires quoted { first.class ≡ Class.Quoted }
-    ensures ok { IfOk result (λ r. (depth : ℕ) → ReadsValue tokens.now end true depth at r.0 r.1) }
+    ensures ok { IfOk result (λ r. (depth : ℕ) → ReadsValue (cursor tokens.now end depth at) true r.0 r.1) }
     ensures within { IfOk result (λ r. (at < r.1) × (r.1 ≤ length tokens.now)) }
     ensures err { IfErr result (λ failure.
-        IfAt failure (λ p w. (depth : ℕ) → FailsScalar tokens.now end depth at p w)) }
+        IfAt failure (λ p w. (depth : ℕ) → FailsScalar (cursor tokens.now end depth at) p w)) }
 {
     match lone_text(tokens, first.text, at + 1) {
         Some(text) => {
@@ -389,10 +389,10 @@ fn read_lone(
     requires value { text.now ≡ spelled token.text.now }
     requires ends { BeginsUnquoted (ahead tokens.now (at + 1)) }
     requires quoted { token.class ≡ Class.Quoted }
-    ensures ok { IfOk result (λ r. (depth : ℕ) → ReadsValue tokens.now end true depth at r.0 r.1) }
+    ensures ok { IfOk result (λ r. (depth : ℕ) → ReadsValue (cursor tokens.now end depth at) true r.0 r.1) }
     ensures within { IfOk result (λ r. (at < r.1) × (r.1 ≤ length tokens.now)) }
     ensures err { IfErr result (λ failure.
-        IfAt failure (λ p w. (depth : ℕ) → FailsScalar tokens.now end depth at p w)) }
+        IfAt failure (λ p w. (depth : ℕ) → FailsScalar (cursor tokens.now end depth at) p w)) }
 {
     match str::from_utf8(text) {
         Ok(text) => Ok((Value::Text(token.place, Text::copy(alloc, text)?), at + 1)),
@@ -412,10 +412,10 @@ fn read_joined(
     requires within { at < length tokens.now }
     requires next { IsNext tokens.now at first }
     requires quoted { first.class ≡ Class.Quoted }
-    ensures ok { IfOk result (λ r. (depth : ℕ) → ReadsValue tokens.now end true depth at r.0 r.1) }
+    ensures ok { IfOk result (λ r. (depth : ℕ) → ReadsValue (cursor tokens.now end depth at) true r.0 r.1) }
     ensures within { IfOk result (λ r. (at < r.1) × (r.1 ≤ length tokens.now)) }
     ensures err { IfErr result (λ failure.
-        IfAt failure (λ p w. (depth : ℕ) → FailsScalar tokens.now end depth at p w)) }
+        IfAt failure (λ p w. (depth : ℕ) → FailsScalar (cursor tokens.now end depth at) p w)) }
 {
     let (bytes, next) = join(alloc, tokens, end, first.text, at + 1)?;
     match String::from_utf8(bytes) {

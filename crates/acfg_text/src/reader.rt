@@ -4,7 +4,7 @@ ghost use Rattle.std.specs.Prelude.{◌≡◌, ℕ, [], ◌<◌, ◌≤◌, leng
 ghost use Rattle.acfg_text.specs.TextFaults.{IfAt};
 ghost use Rattle.acfg_text.specs.Spells.{FirstFault};
 ghost use Rattle.acfg_text.specs.Progress.{Fails, HasRead, IsAll, IsReadable, Reads};
-ghost use Rattle.acfg_text.specs.Reading.{ahead, ArePlain, FailsNext, NoField, ReadsField};
+ghost use Rattle.acfg_text.specs.Reading.{cursor, ahead, ArePlain, FailsNext, NoField, ReadsField};
 
 use crate::fault::{TextFault, TextWhat};
 use crate::grammar::read_field;
@@ -96,7 +96,7 @@ fn next_field(
 ) -> Result<Option<(Item, usize)>, TextFault>
     requires plain { ArePlain tokens.now }
     ensures ok { IfOk result (λ read.
-        MatchOption read (ahead tokens.now at ≡ []) (λ r. ReadsField tokens.now end 0 at r.0 r.1)) }
+        MatchOption read (ahead tokens.now at ≡ []) (λ r. ReadsField (cursor tokens.now end 0 at) r.0 r.1)) }
     ensures within { IfOk result (λ read. IfSome read (λ r. (at < r.1) × (r.1 ≤ length tokens.now))) }
     ensures err { IfErr result (λ failure. IfAt failure (FailsNext tokens.now end at)) }
 {

@@ -1,7 +1,7 @@
 use Rattle.std.proofs.Common.{◌∙◌, ◌+◌, sym, ap, subst, refl, arith, true, false}
 use Rattle.std.proofs.lemmas.Result.{err_from_is_err_and}
 use Rattle.acfg_text.specs.Trees.{item, tree}
-use Rattle.acfg_text.specs.Reading.{ahead, ReadsHeld, ReadsColon, ReadsList, ReadsElement, FailsElement}
+use Rattle.acfg_text.specs.Reading.{cursor, ahead, ReadsHeld, ReadsColon, ReadsList, ReadsElement, FailsElement}
 use Rattle.acfg_text.specs.Machine.{at_item, st, run}
 use Rattle.acfg_text.specs.declared.fault.TextWhat.TheVariants.{Unexpected}
 use Rattle.acfg_text.proofs.Failures.{at_weaker}
@@ -17,7 +17,7 @@ read_element-returns-in_err-value-in-Open-clause-err t c =
     rw (p.1, p.2) (at_weaker c.in_err-value-in-Open.field-0.0 _ _ (λ q w f. element_message_fails c.args.tokens.now c.args.end c.args.depth c.args.at q w c.args.colon f) c.in_err-value-in-Open.ensures.err)
 
 pub read_element-returns-then-not-colon : goal.read_element-returns-then-not-colon
-read_element-returns-then-not-colon t c = record { ok = tt; within = tt; err = subst (λ b. FailsElement c.args.tokens.now c.args.end b c.args.depth c.args.at c.in-Some.seen.place Unexpected) (sym c.if-not-colon.true) (element_none c.args.tokens.now c.args.end c.args.depth c.args.at c.in-Some.seen c.in-Some.ensures.ahead c.in_default-class.not-Open) }
+read_element-returns-then-not-colon t c = record { ok = tt; within = tt; err = subst (λ b. FailsElement (cursor c.args.tokens.now c.args.end c.args.depth c.args.at) b c.in-Some.seen.place Unexpected) (sym c.if-not-colon.true) (element_none c.args.tokens.now c.args.end c.args.depth c.args.at c.in-Some.seen c.in-Some.ensures.ahead c.in_default-class.not-Open) }
 
 pub read_element-read_scalar-requires : goal.read_element-read_scalar-requires
 read_element-read_scalar-requires t c = record { plain = c.requires.plain; within = c.in-Some.ensures.within; next = c.in-Some.ensures.ahead; ascii = c.in-Some.ensures.plain; opens = no_opening c.in-Some.seen.class c.in_default-class.not-Open c.in_default-class.not-OpenList }
@@ -26,7 +26,7 @@ pub read_element-returns-in_ok-value-in-Open-clause-ok : goal.read_element-retur
 read_element-returns-in_ok-value-in-Open-clause-ok t c = element_value c.args.tokens.now c.args.end c.args.depth c.args.at c.in_ok-value-in-Open.next c.args.colon c.in_ok-value-in-Open.value (c.in_ok-value-in-Open.ensures.ok c.args.colon)
 
 pub read_element-returns-in_ok-value-in_default-class : goal.read_element-returns-in_ok-value-in_default-class
-read_element-returns-in_ok-value-in_default-class t c = record { ok = subst (λ b. ReadsElement c.args.tokens.now c.args.end b c.args.depth c.args.at c.in_ok-value-in_default-class.value c.in_ok-value-in_default-class.next) (sym c.if-not-colon.false) (element_value c.args.tokens.now c.args.end c.args.depth c.args.at c.in_ok-value-in_default-class.next true c.in_ok-value-in_default-class.value (c.in_ok-value-in_default-class.ensures.ok c.args.depth)); within = c.in_ok-value-in_default-class.ensures.within; err = tt }
+read_element-returns-in_ok-value-in_default-class t c = record { ok = subst (λ b. ReadsElement (cursor c.args.tokens.now c.args.end c.args.depth c.args.at) b c.in_ok-value-in_default-class.value c.in_ok-value-in_default-class.next) (sym c.if-not-colon.false) (element_value c.args.tokens.now c.args.end c.args.depth c.args.at c.in_ok-value-in_default-class.next true c.in_ok-value-in_default-class.value (c.in_ok-value-in_default-class.ensures.ok c.args.depth)); within = c.in_ok-value-in_default-class.ensures.within; err = tt }
 
 pub read_field-returns-in_err-listed-clause-err : goal.read_field-returns-in_err-listed-clause-err
 read_field-returns-in_err-listed-clause-err t c =
@@ -59,7 +59,7 @@ pub read_held-returns-in_ok-listed-in-Colon-clause-ok : goal.read_held-returns-i
 read_held-returns-in_ok-listed-in-Colon-clause-ok t c = held_colon c.args.tokens.now c.args.end c.args.depth c.args.at c.in_ok-listed-in-Colon.next c.in-Some.seen c.in_ok-listed-in-Colon.listed c.in_ok-listed-in-Colon.values c.in-Some.ensures.ahead c.in-Colon.is c.in_ok-listed-in-Colon.ensures.ok
 
 pub read_held-returns-in_ok-only-in-Open-clause-ok : goal.read_held-returns-in_ok-only-in-Open-clause-ok
-read_held-returns-in_ok-only-in-Open-clause-ok t c = subst (λ l. ReadsHeld c.args.tokens.now c.args.end c.args.depth c.args.at false l c.in_ok-value-in-Open.next) (sym c.in_ok-only-in-Open.ensures) (held_message c.args.tokens.now c.args.end c.args.depth c.args.at c.in_ok-value-in-Open.next c.in_ok-value-in-Open.value c.in_ok-value-in-Open.ensures.ok)
+read_held-returns-in_ok-only-in-Open-clause-ok t c = subst (λ l. ReadsHeld (cursor c.args.tokens.now c.args.end c.args.depth c.args.at) false l c.in_ok-value-in-Open.next) (sym c.in_ok-only-in-Open.ensures) (held_message c.args.tokens.now c.args.end c.args.depth c.args.at c.in_ok-value-in-Open.next c.in_ok-value-in-Open.value c.in_ok-value-in-Open.ensures.ok)
 
 pub read_held-returns-in_ok-values-in-OpenList-clause-ok : goal.read_held-returns-in_ok-values-in-OpenList-clause-ok
 read_held-returns-in_ok-values-in-OpenList-clause-ok t c = held_list c.args.tokens.now c.args.end c.args.depth c.args.at c.in_ok-values-in-OpenList.next c.in-Some.seen c.in_ok-values-in-OpenList.values c.in-Some.ensures.ahead c.in-OpenList.is c.in_ok-values-in-OpenList.ensures.ok
@@ -68,7 +68,7 @@ pub read_held-returns-in_default-class : goal.read_held-returns-in_default-class
 read_held-returns-in_default-class t c = record { ok = tt; within = tt; err = held_none c.args.tokens.now c.args.end c.args.depth c.args.at c.in-Some.seen c.in-Some.ensures.ahead c.in_default-class.not-Colon c.in_default-class.not-Open c.in_default-class.not-OpenList }
 
 pub read_list-returns-then-closes_list-clause-ok : goal.read_list-returns-then-closes_list-clause-ok
-read_list-returns-then-closes_list-clause-ok t c = subst (λ l. ReadsList c.args.tokens.now c.args.end c.args.colon c.args.depth c.args.from l (c.args.from + 1)) (sym c.new-values.ensures) (list_empty c.args.tokens.now c.args.end c.args.depth c.args.from c.args.colon c.if-closes_list.ensures.yes)
+read_list-returns-then-closes_list-clause-ok t c = subst (λ l. ReadsList (cursor c.args.tokens.now c.args.end c.args.depth c.args.from) c.args.colon l (c.args.from + 1)) (sym c.new-values.ensures) (list_empty c.args.tokens.now c.args.end c.args.depth c.args.from c.args.colon c.if-closes_list.ensures.yes)
 
 pub read_list-loop-more-init : goal.read_list-loop-more-init
 read_list-loop-more-init t c = record { above = omega arith; within = c.requires.within; leads = λ h top frames d. list_begins c.args.tokens.now c.args.end c.args.depth c.args.from c.args.colon c.if-closes_list.ensures.no h top frames d ∙ ap (λ l. run true c.args.end (ahead c.args.tokens.now c.args.from) (st (at_item h c.args.colon l) top frames)) (sym c.new-values.ensures) }
@@ -107,13 +107,13 @@ pub read_valued-returns-in_err-value-in_default-class : goal.read_valued-returns
 read_valued-returns-in_err-value-in_default-class t c = let p = err_from_is_err_and c.from_residual-in_err-value-in_default-class.result c.from_residual-in_err-value-in_default-class.ensures.1 in rw (p.1, p.2) (record { ok = tt; within = tt; err = at_weaker c.in_err-value-in_default-class.field-0.0 _ _ (λ q w f. colon_scalar_fails c.args.tokens.now c.args.end c.args.depth c.args.at q w (f c.args.depth)) c.in_err-value-in_default-class.ensures.err })
 
 pub read_valued-returns-in_ok-only-in-Open-clause-ok : goal.read_valued-returns-in_ok-only-in-Open-clause-ok
-read_valued-returns-in_ok-only-in-Open-clause-ok t c = subst (λ l. ReadsColon c.args.tokens.now c.args.end c.args.depth c.args.at false l c.in_ok-value-in-Open.next) (sym c.in_ok-only-in-Open.ensures) (colon_value c.args.tokens.now c.args.end c.args.depth c.args.at c.in_ok-value-in-Open.next c.in_ok-value-in-Open.value (c.in_ok-value-in-Open.ensures.ok true))
+read_valued-returns-in_ok-only-in-Open-clause-ok t c = subst (λ l. ReadsColon (cursor c.args.tokens.now c.args.end c.args.depth c.args.at) false l c.in_ok-value-in-Open.next) (sym c.in_ok-only-in-Open.ensures) (colon_value c.args.tokens.now c.args.end c.args.depth c.args.at c.in_ok-value-in-Open.next c.in_ok-value-in-Open.value (c.in_ok-value-in-Open.ensures.ok true))
 
 pub read_valued-returns-in_ok-values-in-OpenList-clause-ok : goal.read_valued-returns-in_ok-values-in-OpenList-clause-ok
 read_valued-returns-in_ok-values-in-OpenList-clause-ok t c = colon_list c.args.tokens.now c.args.end c.args.depth c.args.at c.in_ok-values-in-OpenList.next c.in-Some.seen c.in_ok-values-in-OpenList.values c.in-Some.ensures.ahead c.in-OpenList.is c.in_ok-values-in-OpenList.ensures.ok
 
 pub read_valued-returns-in_ok-only-in_default-class : goal.read_valued-returns-in_ok-only-in_default-class
-read_valued-returns-in_ok-only-in_default-class t c = record { ok = subst (λ l. ReadsColon c.args.tokens.now c.args.end c.args.depth c.args.at false l c.in_ok-value-in_default-class.next) (sym c.in_ok-only-in_default-class.ensures) (colon_value c.args.tokens.now c.args.end c.args.depth c.args.at c.in_ok-value-in_default-class.next c.in_ok-value-in_default-class.value (c.in_ok-value-in_default-class.ensures.ok c.args.depth)); within = c.in_ok-value-in_default-class.ensures.within; err = tt }
+read_valued-returns-in_ok-only-in_default-class t c = record { ok = subst (λ l. ReadsColon (cursor c.args.tokens.now c.args.end c.args.depth c.args.at) false l c.in_ok-value-in_default-class.next) (sym c.in_ok-only-in_default-class.ensures) (colon_value c.args.tokens.now c.args.end c.args.depth c.args.at c.in_ok-value-in_default-class.next c.in_ok-value-in_default-class.value (c.in_ok-value-in_default-class.ensures.ok c.args.depth)); within = c.in_ok-value-in_default-class.ensures.within; err = tt }
 
 pub read_element-returns-in-OpenList-clause-err : goal.read_element-returns-in-OpenList-clause-err
 read_element-returns-in-OpenList-clause-err t c = element_list c.args.tokens.now c.args.end c.args.depth c.args.at c.args.colon c.in-Some.seen c.in-Some.ensures.ahead c.in-OpenList.is
