@@ -17,3 +17,4 @@ pub use filter::Filter;
 pub use laws::{one_filter, one_template, text_lines};
 pub use parts::{Part, Placeholder};
 pub use template::Template;
+pub use values::{permission_name, state_name};

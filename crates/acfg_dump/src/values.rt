@@ -13,14 +13,14 @@ use acfg_base::Text;
 use acfg_decls::{Flag, Point, Purpose};
 use std::alloc::AllocError;
 
-/// A permission by its name.
+/// A permission by its name: `READ_WRITE` or `READ_ONLY`.
 pub fn permission_name(writable: bool) -> &'static str
     ensures { result.now ≡ permission_name writable }
 {
     if writable { "READ_WRITE" } else { "READ_ONLY" }
 }
 
-/// A state by its name.
+/// A state by its name: `ENABLED` or `DISABLED`.
 pub fn state_name(enabled: bool) -> &'static str
     ensures { result.now ≡ state_name enabled }
 {

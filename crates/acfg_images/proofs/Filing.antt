@@ -4,12 +4,11 @@ use Rattle.std.specs.List.{flat_map}
 use Rattle.std.proofs.lemmas.Bool.Decides.{nat_tests}
 use Rattle.std.proofs.lemmas.List.{map-append, length-append, length-map, length-take, get_or-take, take_all}
 use Rattle.std.proofs.Math.Seq.{take-suc}
-use Rattle.acfg_views.specs.Layout.{VERSION, Package, Flag, package_node, flag_node, MapParts, ListParts, map_header_size, map_file, flag_val_type, flag_info_type, package_map_type, flag_map_type}
+use Rattle.acfg_views.specs.Layout.{VERSION, Package, Flag, package_node, flag_node, MapParts, ListParts, map_header_size, map_file, flag_val_type, flag_info_type, package_map_type, flag_map_type, MOST_BYTES}
 use Rattle.acfg_views.proofs.Parts.{length-map_file, length-list_file}
 use Rattle.acfg_images.specs.Files.{Files, bytes_in_all}
 use Rattle.acfg_images.specs.Links.{NodeKey, bucket_of, links_from, first_in, package_key, flag_node_key}
 use Rattle.acfg_images.specs.Image.{numbers_below, linked}
-use Rattle.acfg_images.specs.Set.{MOST_BYTES}
 use Rattle.acfg_images.specs.Build.{told, sized}
 use Rattle.acfg_images.specs.declared.building.Parts.{Parts}
 use Rattle.acfg_images.specs.declared.building.fault.BuildFault.TheVariants.{TooLarge}

@@ -20,12 +20,12 @@ use Rattle.acfg_base.specs.Release.{Key, key_cmp, IsKey, is_read_write}
 use Rattle.acfg_base.proofs.Keys.{key_total, key_exact}
 use Rattle.acfg_sip.specs.Buckets.{size}
 use Rattle.acfg_sip.proofs.BucketFacts.{size-bounds, size-many}
-use Rattle.acfg_views.specs.Layout.{VERSION, Package, Flag, package_node, flag_node, IsPackageNode, IsFlagNode, MapParts, IsMapFile, first_node_of, map_header_size, map_file, package_map_type, flag_map_type}
+use Rattle.acfg_views.specs.Layout.{VERSION, Package, Flag, package_node, flag_node, IsPackageNode, IsFlagNode, MapParts, IsMapFile, first_node_of, map_header_size, map_file, package_map_type, flag_map_type, MOST_BYTES}
 use Rattle.acfg_images.specs.declared.purpose.Use.TheVariants.{Release}
 use Rattle.acfg_images.specs.Files.{Files, bytes_in_all}
 use Rattle.acfg_images.specs.Words.{AreNumbered}
 use Rattle.acfg_images.specs.Links.{NodeKey, package_key, flag_node_key, links_from, AreLinked}
-use Rattle.acfg_images.specs.Set.{MOST_BYTES, SetParts, Listed, IsInfo, Agree, IsSetOf, IsSet, packages_of, package_with, has_server, has_local, has_read_write, listed_flag, listed_key, listing}
+use Rattle.acfg_images.specs.Set.{SetParts, Listed, IsInfo, Agree, IsSetOf, IsSet, packages_of, package_with, has_server, has_local, has_read_write, listed_flag, listed_key, listing}
 use Rattle.acfg_images.specs.Image.{Compiled, bucket_count, by_bucket, numbers_below, image, files_of}
 use Rattle.acfg_images.specs.Build.{MOST_FLAGS}
 use Rattle.acfg_images.specs.Building.{Group, grouped, total, all_flags, packages_from, flag_nodes_from, value_byte, info_byte, package_with as led_package, flag_with as led_flag, parts_in_order, grouped_parts}

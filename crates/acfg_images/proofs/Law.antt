@@ -2,7 +2,7 @@
 use Rattle.std.proofs.Common.{◌≡◌, ℕ, ◌≤◌, false, ltb, List, length, drop, All, Option, Some, None, Result, Ok, Err, refl, sym, ap, subst, ◌∙◌, ◌⊎◌, inl, inr, arith, lit<}
 use Rattle.std.proofs.lemmas.Bool.{le-ltb}
 use Rattle.acfg_views.specs.Fields.{IsBytes}
-use Rattle.acfg_views.specs.Layout.{Package, Flag, package_node, flag_node, IsPackageNode, IsFlagNode, first_node_of, MapParts, ListParts, package_map_type, flag_map_type, flag_val_type, flag_info_type}
+use Rattle.acfg_views.specs.Layout.{Package, Flag, package_node, flag_node, IsPackageNode, IsFlagNode, first_node_of, MapParts, ListParts, package_map_type, flag_map_type, flag_val_type, flag_info_type, MOST_BYTES}
 use Rattle.acfg_views.specs.Reading.{OpenMap, OpenList, opened_map, opened_list, bucket_count, package_at, flag_at}
 use Rattle.acfg_views.specs.Parts.{parts_of, list_parts_of, open_parts, open_list_parts, HasNodes}
 use Rattle.acfg_views.proofs.FileFacts.{package_exact, flag_exact, opened_map-offsets, opened_map-first_bucket, opened_list-offsets}
@@ -15,7 +15,7 @@ use Rattle.acfg_images.specs.declared.fault.ImageFault.{ImageFault}
 use Rattle.acfg_images.specs.declared.fault.ImageFault.TheVariants.{OutOfMemory}
 use Rattle.acfg_images.specs.Files.{Files, bytes_in_all}
 use Rattle.acfg_images.specs.Links.{package_links, flag_links, AreLinked, links_of_packages, links_of_flags}
-use Rattle.acfg_images.specs.Set.{MOST_BYTES, SetParts, IsInfo, Agree, IsSetOf, release_in, notes_in}
+use Rattle.acfg_images.specs.Set.{SetParts, IsInfo, Agree, IsSetOf, release_in, notes_in}
 use Rattle.acfg_images.specs.Faults.{◌>>=◌, unless, Opened, opened_set, opened_files, files_in, nodes_in, nodes_of, nodes_or_none, link_fault, package_part, flag_part, packages_in, flags_in, parts_in, bits_fault, disagreement, container_fault, id_fault, count_fault, HasNoFault, checked, checked_files}
 use Rattle.acfg_images.specs.Views.{AreOpenFiles}
 use Rattle.acfg_images.specs.Laws.{AreBytes, IsOneSet, IsNoSet, FaultlessAreSets, SetsAreFaultless}

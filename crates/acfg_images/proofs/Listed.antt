@@ -1,13 +1,12 @@
 -- The flags that a set lists: each has a package, a lawful name and a value, and no two have one key.
-use Rattle.std.proofs.Common.{◌≡◌, ◌≢◌, ℕ, zero, suc, ◌+◌, ◌-◌, ◌<◌, ◌≤◌, ◌^◌, Bool, true, false, cond, eqb, ◌||◌, List, [], ◌∷◌, length, get_or, set, drop, map, All, Option, Some, None, refl, sym, ap, subst, ◌∙◌, ◌⊎◌, arith, inl, inr}
-use Rattle.std.specs.Prelude.{find, count_by, unwrap_or, slice_index_or}
+use Rattle.std.proofs.Common.{◌≡◌, ◌≢◌, ℕ, zero, suc, ◌+◌, ◌<◌, Bool, true, false, cond, eqb, ◌||◌, List, [], ◌∷◌, length, get_or, drop, map, All, Option, Some, None, refl, sym, ap, subst, ◌∙◌, ◌⊎◌, arith, inl, inr}
+use Rattle.std.specs.Prelude.{find, slice_index_or}
 use Rattle.std.specs.List.{list_any}
 use Rattle.std.specs.Option.{option_map}
 use Rattle.std.specs.Ordering.{eq_by_cmp}
 use Rattle.std.proofs.lemmas.Bool.{cases_order, eqb-true}
-use Rattle.std.proofs.lemmas.List.{get_or-map, length-map, get_or-set_same, get_or-set_other, length-set, get_or-drop, length-drop}
-use Rattle.std.proofs.Math.Seq.{drop-cons}
-use Rattle.acfg_base.specs.Names.{IsName, IsPackage}
+use Rattle.std.proofs.lemmas.List.{get_or-map, length-map, get_or-drop, length-drop}
+use Rattle.acfg_base.specs.Names.{IsPackage}
 use Rattle.acfg_base.specs.declared.releases.Entry.{Entry}
 use Rattle.acfg_base.specs.declared.releases.Kind.TheVariants.{ReadWrite}
 use Rattle.acfg_base.specs.Release.{Key, key_cmp, key_of, facts_of, release_of, HasTwins}
@@ -18,11 +17,10 @@ use Rattle.acfg_views.specs.Layout.{Package, Flag, package_node, flag_node, firs
 use Rattle.acfg_views.specs.Reading.{OpenList, byte_in, package_of}
 use Rattle.acfg_images.specs.declared.purpose.Use.{Use}
 use Rattle.acfg_images.specs.Files.{Files}
-use Rattle.acfg_images.specs.Words.{AreNumbered}
-use Rattle.acfg_images.specs.Links.{NodeKey, Link, links_from, package_key, flag_node_key, HaveOwnKeys, links_of_packages, links_of_flags}
-use Rattle.acfg_images.specs.Set.{SetParts, Listed, IsSetOf, packages_of, flags_of, package_with, start_of, index_of, listed_flag, listed_key, listing, release_in}
+use Rattle.acfg_images.specs.Links.{NodeKey, Link, links_from, package_key, flag_node_key, HaveOwnKeys}
+use Rattle.acfg_images.specs.Set.{SetParts, IsSetOf, packages_of, flags_of, package_with, start_of, index_of, listed_flag, listed_key, release_in}
 use Rattle.acfg_images.specs.Faults.{Opened, packages_in, flags_in, parts_in}
-use Rattle.acfg_images.specs.Listing.{entry_of, entry_in, HasPackages, IsListable}
+use Rattle.acfg_images.specs.Listing.{entry_of, HasPackages, IsListable}
 use Rattle.acfg_images.proofs.Pigeon.{AreNumbered-below, counted_some, two_of}
 use Rattle.acfg_images.proofs.AgreeAre.{HasCount}
 

@@ -1,13 +1,13 @@
 -- A set with other values and bits is a set.
-use Rattle.std.proofs.Common.{◌≡◌, ℕ, ◌+◌, ◌-◌, ◌<◌, ◌≤◌, List, [], ◌++◌, length, get_or, take, map, All, refl, sym, ap, subst, ◌∙◌, arith}
+use Rattle.std.proofs.Common.{◌≡◌, ℕ, ◌+◌, ◌-◌, ◌<◌, ◌≤◌, List, ◌++◌, length, get_or, take, map, All, refl, sym, ap, subst, ◌∙◌, arith}
 use Rattle.std.proofs.lemmas.List.{get_or-drop, length-append, length-drop, length-map, take_at}
 use Rattle.std.proofs.Math.ListN.{get_or-map}
-use Rattle.acfg_views.specs.Layout.{Flag, ListParts, list_header, list_header_size, list_size, list_file, IsListFile, IsPackageMapFile, IsFlagMapFile, flag_val_type, flag_info_type}
+use Rattle.acfg_views.specs.Layout.{ListParts, list_header, list_header_size, list_size, list_file, IsListFile, IsPackageMapFile, IsFlagMapFile, flag_val_type, flag_info_type}
 use Rattle.acfg_views.specs.Reading.{byte_in}
 use Rattle.acfg_images.specs.declared.purpose.Use.{Use}
 use Rattle.acfg_images.specs.declared.purpose.Use.TheVariants.{Copy}
-use Rattle.acfg_images.specs.Files.{Files, bytes_in_all}
-use Rattle.acfg_images.specs.Set.{SetParts, packages_of, flags_of, index_of, has_read_write, IsInfo, Agree, IsSetOf}
+use Rattle.acfg_images.specs.Files.{Files}
+use Rattle.acfg_images.specs.Set.{SetParts, packages_of, flags_of, index_of, has_read_write, IsInfo, IsSetOf}
 use Rattle.acfg_images.specs.Faults.{Opened, parts_in}
 use Rattle.acfg_images.specs.Views.{AreOpenFiles}
 use Rattle.acfg_images.specs.Restamp.{restamped, CanRestamp}

@@ -1,6 +1,6 @@
 -- One step of the check behind another.
 use Rattle.std.proofs.Common.{◌≡◌, ℕ, ◌≤◌, ◌^◌, List, length, drop, map, Option, Some, None, Result, Ok, Err, ◌⊎◌, inl, inr, Bool, true, false, cond, ltb, ◌-◌, refl, sym, ap, subst, ◌∙◌}
-use Rattle.acfg_views.specs.Layout.{Package, Flag, package_map_type, flag_map_type, flag_val_type, flag_info_type}
+use Rattle.acfg_views.specs.Layout.{Package, Flag, package_map_type, flag_map_type, flag_val_type, flag_info_type, MOST_BYTES}
 use Rattle.acfg_views.specs.Reading.{OpenMap, OpenList, opened_map, opened_list, bucket_count, package_at, flag_at, package_of, flag_of}
 use Rattle.acfg_views.specs.declared.nodes.PackageNode.{PackageNode}
 use Rattle.acfg_views.specs.declared.nodes.FlagNode.{FlagNode}
@@ -14,7 +14,6 @@ use Rattle.acfg_images.specs.declared.purpose.Use.{Use}
 use Rattle.std.specs.Prelude.{min}
 use Rattle.std.proofs.lemmas.Bool.{ltb-false}
 use Rattle.acfg_views.specs.declared.fault.ViewFault.{ViewFault}
-use Rattle.acfg_images.specs.Set.{MOST_BYTES}
 use Rattle.acfg_images.specs.Files.{Files, bytes_in_all}
 use Rattle.acfg_images.specs.Links.{Link, package_links, flag_links}
 use Rattle.acfg_images.specs.Faults.{◌>>=◌, unless, or_else, view_of, Opened, opened_set, opened_files, files_in, bits_fault, disagreement, checked, checked_files, wrong_links, buckets_in, nodes_in, nodes_of, link_fault, package_part, flag_part}

@@ -4,10 +4,10 @@ use Rattle.std.specs.Borrow.{Bor}
 use Rattle.std.specs.List.{flat_map}
 use Rattle.acfg_decls.specs.declared.flags.Flag.{Flag}
 use Rattle.acfg_decls.specs.Releases.{kind_of}
+use Rattle.acfg_views.specs.Layout.{MOST_BYTES}
 use Rattle.acfg_images.specs.declared.building.fault.BuildFault.{BuildFault}
 use Rattle.acfg_images.specs.declared.building.fault.BuildFault.TheVariants.{TooManyFlags, TooLarge, OutOfMemory}
 use Rattle.acfg_images.specs.Files.{Files, bytes_in_all}
-use Rattle.acfg_images.specs.Set.{MOST_BYTES}
 use Rattle.acfg_images.specs.Image.{Compiled, image}
 
 -- the most flags of a container's image

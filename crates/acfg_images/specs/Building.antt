@@ -6,7 +6,7 @@ use Rattle.std.specs.Str.{bytes_eq}
 use Rattle.std.specs.Borrow.{Bor}
 use Rattle.std.specs.Global.{Vec}
 use Rattle.acfg_views.specs.Layout.{VERSION, Package, Flag, MapParts, package_node, flag_node, map_header}
-use Rattle.acfg_views.specs.Layout.{map_header_size}
+use Rattle.acfg_views.specs.Layout.{map_header_size, new_info}
 use Rattle.acfg_views.specs.Layout.{map_file, list_file, package_map_type, flag_map_type, flag_val_type, flag_info_type}
 use Rattle.acfg_images.specs.declared.building.groups.Row.{Row}
 use Rattle.acfg_images.specs.declared.building.packages.PackageRow.{PackageRow}
@@ -15,7 +15,7 @@ use Rattle.acfg_images.specs.declared.building.Parts.{Parts}
 use Rattle.acfg_images.specs.Files.{Files}
 use Rattle.acfg_images.specs.Links.{NodeKey, Link, package_key, flag_node_key, bucket_of, links_from, first_in}
 use Rattle.acfg_images.specs.Set.{SetParts}
-use Rattle.acfg_images.specs.Image.{Compiled, numbers_below, by_bucket, bucket_count, linked, map_parts, new_info}
+use Rattle.acfg_images.specs.Image.{Compiled, numbers_below, by_bucket, bucket_count, linked, map_parts}
 use Rattle.acfg_images.specs.Image.{files_of}
 
 -- ---- flags of one package

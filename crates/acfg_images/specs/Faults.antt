@@ -10,7 +10,7 @@ use Rattle.acfg_base.specs.Release.{is_read_write}
 use Rattle.acfg_views.specs.declared.fault.ViewFault.{ViewFault}
 use Rattle.acfg_views.specs.Fields.{numbers}
 use Rattle.acfg_views.specs.Layout.{Package, Flag, package_map_type, flag_map_type, flag_val_type}
-use Rattle.acfg_views.specs.Layout.{flag_info_type}
+use Rattle.acfg_views.specs.Layout.{flag_info_type, MOST_BYTES}
 use Rattle.acfg_views.specs.Reading.{OpenMap, OpenList, opened_map, opened_list, package_at, flag_at, bucket_count}
 use Rattle.acfg_views.specs.Reading.{byte_in}
 use Rattle.acfg_views.specs.Parts.{parts_of, list_parts_of}
@@ -25,7 +25,7 @@ use Rattle.acfg_images.specs.declared.purpose.Use.TheVariants.{Release, Copy}
 use Rattle.acfg_images.specs.Files.{Files, bytes_in_all}
 use Rattle.acfg_images.specs.Words.{least}
 use Rattle.acfg_images.specs.Links.{NodeKey, Link, same_key, bucket_of, first_in, package_links, flag_links}
-use Rattle.acfg_images.specs.Set.{MOST_BYTES, SetParts, index_of, has_read_write}
+use Rattle.acfg_images.specs.Set.{SetParts, index_of, has_read_write}
 
 -- what comes of a step, where the one before it found no fault
 infixl 10 ◌>>=◌

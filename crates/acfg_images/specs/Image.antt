@@ -3,12 +3,11 @@ use Rattle.std.specs.Prelude.{ℕ, zero, suc, ◌+◌, ◌*◌, List, [], ◌∷
 use Rattle.std.specs.Prelude.{unwrap_or, if◌then◌else◌}
 use Rattle.std.specs.List.{flat_map, enumerate_from}
 use Rattle.std.specs.Str.{bytes_eq}
-use Rattle.acfg_base.specs.Release.{is_read_write}
 use Rattle.acfg_base.specs.declared.releases.Kind.{Kind}
 use Rattle.acfg_sip.specs.Buckets.{size}
 use Rattle.acfg_views.specs.Layout.{VERSION, Package, Flag, package_node, flag_node, MapParts, map_header_size}
 use Rattle.acfg_views.specs.Layout.{map_file, list_file, package_map_type, flag_map_type, flag_val_type}
-use Rattle.acfg_views.specs.Layout.{flag_info_type}
+use Rattle.acfg_views.specs.Layout.{flag_info_type, new_info}
 use Rattle.acfg_images.specs.Links.{NodeKey, package_key, flag_node_key, bucket_of, links_from, first_in}
 use Rattle.acfg_images.specs.Files.{Files}
 use Rattle.acfg_images.specs.Set.{SetParts}
@@ -96,10 +95,6 @@ map_parts node key with_next container nodes =
       buckets = map (λ b. first_in count b (links_from node key (λ _. 0) first in_order)) (numbers_below count);
       nodes = linked node key with_next count first in_order;
     }
-
--- a new info byte: read-write or not, and no notes
-abbrev pub new_info : Kind → ℕ
-new_info kind = if is_read_write kind then 2 else 0
 
 -- the parts of the image of flags, in the order of the caches and within them
 unfoldable pub image_parts : List ℕ → List Compiled → SetParts

@@ -6,9 +6,10 @@ use Rattle.acfg_base.specs.Release.{Key, key_cmp, ReleaseMap, IsKey}
 use Rattle.acfg_base.specs.Places.{map_of}
 use Rattle.acfg_decls.specs.declared.flags.Flag.{Flag}
 use Rattle.acfg_decls.specs.Releases.{release}
+use Rattle.acfg_views.specs.Layout.{MOST_BYTES}
 use Rattle.acfg_images.specs.declared.purpose.Use.TheVariants.{Release}
 use Rattle.acfg_images.specs.Files.{bytes_in_all}
-use Rattle.acfg_images.specs.Set.{MOST_BYTES, Notes, IsSet}
+use Rattle.acfg_images.specs.Set.{Notes, IsSet}
 use Rattle.acfg_images.specs.Image.{Compiled, image}
 use Rattle.acfg_images.specs.Build.{MOST_FLAGS, compiled_in}
 

@@ -8,16 +8,12 @@ use Rattle.acfg_base.specs.declared.releases.Kind.{Kind}
 use Rattle.acfg_base.specs.Release.{Key, key_cmp, ReleaseMap, is_read_write}
 use Rattle.acfg_base.specs.Places.{map_of}
 use Rattle.acfg_views.specs.Layout.{Package, Flag, MapParts, ListParts, IsPackageMapFile, IsFlagMapFile, IsListFile}
-use Rattle.acfg_views.specs.Layout.{flag_val_type, flag_info_type}
+use Rattle.acfg_views.specs.Layout.{flag_val_type, flag_info_type, MOST_BYTES}
 use Rattle.acfg_images.specs.declared.purpose.Use.{Use}
 use Rattle.acfg_images.specs.declared.purpose.Use.TheVariants.{Release, Copy}
 use Rattle.acfg_images.specs.Files.{Files, bytes_in_all}
 use Rattle.acfg_images.specs.Words.{AreNumbered}
 use Rattle.acfg_images.specs.Links.{AreLinked, links_of_packages, links_of_flags}
-
--- the most bytes that the four files have together
-abbrev pub MOST_BYTES : ℕ
-MOST_BYTES = 4194304
 
 -- what the four files are made of
 pub record SetParts : Type 0 where

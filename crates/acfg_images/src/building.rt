@@ -18,6 +18,7 @@ use crate::set::ImageSet;
 use acfg_base::ContainerName;
 use acfg_decls::{Flag, Flags};
 use acfg_sip::table_size;
+use acfg_views::are_too_large;
 pub use fault::BuildFault;
 use files::{list_file, write_flag_map, write_package_map};
 use flags::{FlagRow, flag_map_size, list_flags, list_infos, list_values, sort_flags};
@@ -27,9 +28,6 @@ use std::alloc::{AllocError, Global};
 
 /// The most flags of a container's image.
 pub const MOST_FLAGS: u64 = 50_000;
-
-/// The most bytes that the four files have together.
-const MOST_BYTES: u64 = 4_194_304;
 
 // What the files are made of: the nodes of the maps in order of their buckets, and a byte of `flag.val` and of
 // `flag.info` for each flag.
@@ -150,7 +148,7 @@ fn build_parts(alloc: Global, container: &str, parts: Parts<'_>) -> Result<Image
         .saturating_add(flag_size)
         .saturating_add(list_size)
         .saturating_add(list_size);
-    if size > MOST_BYTES {
+    if are_too_large(size) {
         return Err(BuildFault::TooLarge(size));
     }
     let sizes = (package_size as u32, flag_size as u32);

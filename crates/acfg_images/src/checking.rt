@@ -15,13 +15,10 @@ use crate::purpose::Use;
 use crate::room::{Room, take_room};
 use crate::set::ImageSet;
 use crate::views::{Views, open_views};
-use acfg_views::Steps;
+use acfg_views::{Steps, are_too_large};
 use std::alloc::Global;
 use std::marker::Brand;
 use std::sync::ledger::{Blank, Ledger};
-
-/// The most bytes that the four files have together.
-const MOST_BYTES: u64 = 4_194_304;
 
 /// Checks a set for a use. The answer is `Ok` exactly where the files are a set of some release and notes, which it
 /// then determines, want of memory aside.
@@ -107,7 +104,7 @@ fn find_too_large(set: &ImageSet) -> Option<ImageFault>
         .saturating_add(set.flag_map().len() as u64)
         .saturating_add(set.flag_val().len() as u64)
         .saturating_add(set.flag_info().len() as u64);
-    if bytes > MOST_BYTES {
+    if are_too_large(bytes) {
         return Some(ImageFault::TooLarge(bytes));
     }
     None

@@ -1,6 +1,7 @@
 //! Which bucket of a map file a key is in, and how many buckets a map file is written with.
 
 ghost use Rattle.std.specs.Prelude.{◌≡◌, ◌<◌, ◌≤◌, ◌*◌, ◌↔◌, ℕ, List, IsNone, IfSome, find, nat_le};
+ghost use Rattle.std.specs.Prelude.{length, slice_index, slice_set};
 ghost use Rattle.acfg_sip.specs.Buckets.{bucket_counts, flag_key, hash, size};
 ghost use Rattle.acfg_sip.specs.Hasher.{Holds};
 ghost use Rattle.acfg_sip.specs.SipHash.{initialized};
@@ -74,4 +75,16 @@ fn first_count(wanted: u64) -> Option<u32>
         .iter()
         .copied()
         .find(|count| wanted <= u64::from(*count))
+}
+
+/// What the node at a place links to, given the first node of each bucket so far: the first one of its bucket, or 0
+/// where there is none. The bucket's first node is the one at the place from now on.
+pub fn lead(firsts: &mut [u32], bucket: u32, at: u32) -> u32
+    requires { bucket < length firsts.old }
+    ensures next { result ≡ slice_index firsts.old bucket }
+    ensures first { firsts.new ≡ slice_set firsts.old bucket at }
+{
+    let next = firsts[bucket as usize];
+    firsts[bucket as usize] = at;
+    next
 }

@@ -9,5 +9,5 @@ mod siphash;
 mod state;
 mod word;
 
-pub use buckets::{bucket, flag_bucket, table_size};
+pub use buckets::{bucket, flag_bucket, lead, table_size};
 pub use siphash::sip;

@@ -5,7 +5,6 @@ ghost use Rattle.std.specs.List.{flat_map};
 ghost use Rattle.acfg_device.specs.Only.{OnlyReads, OnlySays};
 ghost use Rattle.acfg_decls.specs.Reading.{Declares};
 ghost use Rattle.acfg_dump.specs.Lines.{flag_line};
-ghost use Rattle.acfg_dump.specs.Names.{permission_name, state_name};
 ghost use Rattle.acfg_top.specs.Bodies.{Comes, IsOf};
 ghost use Rattle.acfg_top.specs.Flags.{FlagsGives};
 ghost use Rattle.acfg_top.specs.Outcome.{Outcome, IsBroken};
@@ -14,6 +13,7 @@ use crate::ending::{Ending, Stop};
 use crate::told::{Refusal, Told, refused, tell};
 use acfg_decls::{CompileFault, DeclFault, Declarations, Flag, compile_own, read_declarations};
 use acfg_device::Panel;
+use acfg_dump::{permission_name, state_name};
 use std::alloc::{AllocError, Global};
 
 /// Lists the flags of one declarations file.
@@ -106,16 +106,4 @@ fn push_line(text: &mut String, flag: &Flag) -> Result<(), AllocError>
         text,
         "{package}.{name} [{container}]: {permission} + {state}\n"
     )
-}
-
-fn permission_name(writable: bool) -> &'static str
-    ensures { result.now ≡ permission_name writable }
-{
-    if writable { "READ_WRITE" } else { "READ_ONLY" }
-}
-
-fn state_name(enabled: bool) -> &'static str
-    ensures { result.now ≡ state_name enabled }
-{
-    if enabled { "ENABLED" } else { "DISABLED" }
 }

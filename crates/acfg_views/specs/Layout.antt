@@ -1,8 +1,8 @@
 -- The four storage files of AOSP's aconfig_storage_file, version 1, as tables of fields.
-use Rattle.std.specs.Prelude.{◌≡◌, ℕ, ◌+◌, ◌*◌, ◌<◌, ◌≤◌, ◌^◌, List, [], ◌∷◌, ◌++◌, length, All}
+use Rattle.std.specs.Prelude.{◌≡◌, ℕ, ◌+◌, ◌*◌, ◌<◌, ◌≤◌, ◌^◌, List, [], ◌∷◌, ◌++◌, length, All, if◌then◌else◌}
 use Rattle.std.specs.List.{concat, flat_map}
 use Rattle.acfg_base.specs.Names.{IsName, IsPackage, IsContainer}
-use Rattle.acfg_base.specs.Release.{kind_number}
+use Rattle.acfg_base.specs.Release.{kind_number, is_read_write}
 use Rattle.acfg_base.specs.declared.releases.Kind.{Kind}
 use Rattle.acfg_views.specs.Fields.{number, string}
 
@@ -163,3 +163,13 @@ IsPackageMapFile = IsMapFile package_map_type package_node IsPackageNode
 
 abbrev pub IsFlagMapFile : List ℕ → MapParts Flag → Type 0
 IsFlagMapFile = IsMapFile flag_map_type flag_node IsFlagNode
+
+-- ---- limits and new bytes
+
+-- the most bytes that the four files have together: 4 MiB
+abbrev pub MOST_BYTES : ℕ
+MOST_BYTES = 4194304
+
+-- a new byte of flag.info: read-write or not, and no notes
+abbrev pub new_info : Kind → ℕ
+new_info kind = if is_read_write kind then 2 else 0

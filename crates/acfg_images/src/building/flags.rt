@@ -8,7 +8,7 @@ ghost use Rattle.std.specs.Ordering.{nat_cmp};
 ghost use Rattle.acfg_base.specs.Release.{kind_number as number_of_kind};
 ghost use Rattle.acfg_views.specs.Layout.{flag_node};
 ghost use Rattle.acfg_images.specs.Links.{flag_node_key, first_in};
-ghost use Rattle.acfg_images.specs.Image.{by_bucket, new_info};
+ghost use Rattle.acfg_images.specs.Image.{by_bucket};
 ghost use Rattle.acfg_images.specs.Build.{told};
 ghost use Rattle.acfg_images.specs.Building.{row_of, groups_of, total, flags_from, all_flags, flag_nodes_from, flag_of};
 ghost use Rattle.acfg_images.specs.Building.{source_of, FlagsHaveBuckets, linked_flags, unlinked_flags, led_flag};
@@ -18,7 +18,8 @@ ghost use Rattle.acfg_images.specs.declared.building.flags.FlagRow.{FlagRow as P
 use super::fields::{put_string, put_u16, put_u32};
 use super::groups::{Groups, Row};
 use acfg_base::Kind;
-use acfg_sip::flag_bucket;
+use acfg_sip::{flag_bucket, lead};
+use acfg_views::new_info;
 use std::alloc::{AllocError, Global};
 
 /// How long a node is without its name.
@@ -118,18 +119,9 @@ pub(crate) fn list_infos(alloc: Global, rows: &[FlagRow<'_>]) -> Result<Vec<u8>,
 {
     let mut bytes = Vec::with_capacity(alloc, rows.len())?;
     for row in rows {
-        bytes.push(info_of(row.row.kind))?;
+        bytes.push(new_info(row.row.kind))?;
     }
     Ok(bytes)
-}
-
-fn info_of(kind: Kind) -> u8
-    ensures { result ≡ new_info kind }
-{
-    match kind {
-        Kind::ReadWrite => 2,
-        Kind::ReadOnly | Kind::Fixed => 0,
-    }
 }
 
 /// Sorts nodes by their buckets. Those of one bucket stay as they stood.
@@ -193,9 +185,7 @@ fn link(rows: &mut [FlagRow<'_>], firsts: &mut [u32], i: usize, at: u32)
     ensures first { (d : Placed) → firsts.new ≡ slice_set firsts.old (slice_index_or rows.old i d).bucket at }
 {
     let mut row = rows[i];
-    let bucket = row.bucket as usize;
-    row.next = firsts[bucket];
-    firsts[bucket] = at;
+    row.next = lead(firsts, row.bucket, at);
     rows[i] = row;
 }
 

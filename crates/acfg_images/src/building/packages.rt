@@ -15,7 +15,7 @@ ghost use Rattle.acfg_images.specs.declared.building.packages.PackageRow.{Packag
 
 use super::fields::{put_string, put_u32};
 use super::groups::Groups;
-use acfg_sip::bucket;
+use acfg_sip::{bucket, lead};
 use std::alloc::{AllocError, Global};
 
 /// How long a node is without its name.
@@ -123,9 +123,7 @@ fn link(rows: &mut [PackageRow<'_>], firsts: &mut [u32], i: usize, at: u32)
     ensures first { (d : Row) → firsts.new ≡ slice_set firsts.old (slice_index_or rows.old i d).bucket at }
 {
     let mut row = rows[i];
-    let bucket = row.bucket as usize;
-    row.next = firsts[bucket];
-    firsts[bucket] = at;
+    row.next = lead(firsts, row.bucket, at);
     rows[i] = row;
 }
 

@@ -1,4 +1,4 @@
-use Rattle.std.proofs.Common.{arith, inr, subst, sym, ap, length, map, ◌∙◌, ◌≤◌, Result}
+use Rattle.std.proofs.Common.{arith, inr, subst, sym, ap, length, ◌∙◌, ◌≤◌, Result}
 use Rattle.std.proofs.lemmas.List.{length-map}
 use Rattle.acfg_images.specs.Files.{Files}
 use Rattle.acfg_images.specs.Build.{Builds, compiled_lent, sized}

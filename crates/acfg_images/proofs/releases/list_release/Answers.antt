@@ -1,9 +1,6 @@
 use Rattle.std.proofs.Common.{◌≡◌, All, is_some, map, sym, ap, subst, ◌∙◌}
 use Rattle.std.proofs.lemmas.Option.{MatchOption-at_some}
 use Rattle.acfg_base.specs.Release.{HasTwins, release_of}
-use Rattle.acfg_base.specs.declared.releases.Entry.{Entry}
-use Rattle.acfg_views.specs.Layout.{Flag}
-use Rattle.acfg_views.specs.Reading.{flag_of}
 use Rattle.acfg_images.specs.Faults.{files_in, flags_in, parts_in}
 use Rattle.acfg_images.specs.Listing.{IsListable, entry_in}
 use Rattle.acfg_views.specs.Layout.{flag_val_type}

@@ -1,12 +1,10 @@
-use Rattle.std.proofs.Common.{◌≡◌, ℕ, List, [], ◌+◌, ◌<◌, Bool, Option, Some, length, drop, get_or, eqb, refl, sym, ap, ◌∙◌, arith}
+use Rattle.std.proofs.Common.{◌≡◌, ℕ, List, [], ◌+◌, ◌<◌, Bool, Option, length, drop, get_or, eqb, sym, ap, ◌∙◌, arith}
 use Rattle.std.specs.Prelude.{unwrap_or}
 use Rattle.std.specs.Option.{option_map}
 use Rattle.acfg_base.specs.declared.releases.Entry.{Entry}
 use Rattle.acfg_base.specs.declared.releases.Kind.{Kind}
 use Rattle.acfg_views.specs.Layout.{Package, flag_val_type}
-use Rattle.acfg_views.specs.Reading.{flag_of}
 use Rattle.acfg_views.proofs.FileFacts.{opened_list-header}
-use Rattle.acfg_images.specs.Listing.{entry_in}
 use Rattle.acfg_images.proofs.Law.{has_count}
 use Rattle.acfg_images.proofs.Listed.{table_start, table_package, value_is}
 use Rattle.acfg_images.proofs.releases.make_entry.Goals as goal

@@ -1,4 +1,4 @@
-use Rattle.std.proofs.Common.{◌≡◌, map, take}
+use Rattle.std.proofs.Common.{◌≡◌, take}
 use Rattle.acfg_images.specs.Build.{compiled_lent}
 use Rattle.acfg_images.specs.Building.{groups_of, grouped}
 use Rattle.acfg_images.proofs.building.groups.group_lent.Given as goal
