@@ -38,10 +38,13 @@ dropped total (field ∷ fields) (suc i) = dropped total fields i
 
 -- ---- fields that are the same from a place on
 
+tail_suc : {X : Type 0} (xs : List X) (i : ℕ) → drop 1 (drop i xs) ≡ drop (suc i) xs
+tail_suc xs zero = refl
+tail_suc [] (suc i) = refl
+tail_suc (x ∷ xs) (suc i) = tail_suc xs i
+
 tail_drop : {X : Type 0} (xs : List X) (i : ℕ) → drop 1 (drop i xs) ≡ drop (i + 1) xs
-tail_drop xs zero = refl
-tail_drop [] (suc i) = refl
-tail_drop (x ∷ xs) (suc i) = tail_drop xs i
+tail_drop xs i = let next : suc i ≡ i + 1 = omega arith in tail_suc xs i ∙ ap (λ n. drop n xs) next
 
 slice_front : {X : Type 0} (xs : List X) (i : ℕ) → slice_get (drop i xs) 0 ≡ slice_get xs i
 slice_front xs zero = refl

@@ -16,6 +16,7 @@ use Rattle.acfg_device.specs.Disk.{Disk}
 use Rattle.acfg_top.specs.Bodies.{AreWrites, Comes, IsEnding, IsOutputOf, IsProduct, writes_in}
 use Rattle.acfg_top.specs.Outcome.{Outcome, Usage, Refused, Damaged, Done, Replayed, IsBroken, IsDone, IsOutput, IsWritten, Makes, OnlyWrites, Spares, Writes, said_for, written}
 use Rattle.acfg_top.specs.declared.ending.Ending.{Ending}
+use Rattle.acfg_top.specs.declared.ending.Ending.TheVariants as end
 use Rattle.acfg_top.specs.declared.ending.Stop.{Stop}
 use Rattle.acfg_top.specs.declared.output.Output.{Output}
 use Rattle.acfg_top.proofs.Telling.{broken_earlier, settled_too}

@@ -10,8 +10,8 @@ use Rattle.acfg_cache.specs.Bodies.{EndsWithin, parts_read}
 use Rattle.acfg_cache.proofs.Opened.{content_ends, end_same, ends_within, got_same, placed_next, rest_same}
 use Rattle.acfg_cache.proofs.parts.place_fields.Goals as goal
 
-pub overflow_sub-end_at : goal.overflow_sub-end_at
-overflow_sub-end_at c =
+pub overflow_sub-placed : goal.overflow_sub-placed
+overflow_sub-placed c =
     let bytes = c.args.bytes.now in
     let old = c.args.fields.now in
     let now = c.loop-i.fields in
@@ -21,8 +21,8 @@ overflow_sub-end_at c =
     let ends = c.end_at.ensures ∙ end_same (length bytes) now old i c.loop-i.invariant.rest in
     content_ends bytes old i field c.end_at.result c.content_len-len.result c.requires.lie got ends c.content_len-len.ensures
 
-pub overflow_add-at : goal.overflow_add-at
-overflow_add-at c =
+pub overflow_add-placed : goal.overflow_add-placed
+overflow_add-placed c =
     let bytes = c.args.bytes.now in
     let old = c.args.fields.now in
     let ends = c.end_at.ensures ∙ end_same (length bytes) c.loop-i.fields old c.loop-i.i c.loop-i.invariant.rest in
