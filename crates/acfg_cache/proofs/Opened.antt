@@ -1,6 +1,8 @@
 -- Fields placed in the cache, one after another, and the wire fault of a message.
 use Rattle.std.proofs.Common.{◌≡◌, ℕ, zero, suc, ◌+◌, ◌-◌, ◌<◌, ◌≤◌, ◌⊎◌, List, [], ◌∷◌, ◌++◌, length, drop, get_or, Some, slice_get, append_assoc, Err, refl, sym, ap, subst, ◌∙◌, arith, inl, inr}
+use Rattle.std.proofs.Common.{take}
 use Rattle.std.specs.Prelude.{slice_index_or}
+use Rattle.std.proofs.Math.Seq.{take-append_seam}
 use Rattle.std.proofs.lemmas.Bool.{cases_lt}
 use Rattle.std.proofs.lemmas.List.{get_or_default, get_or_past, map_push}
 use Rattle.std.proofs.lemmas.Option.{get_or_from_slice_get, slice_get_within}
@@ -103,3 +105,7 @@ placed_next at total fields i field end len read before after is ends_at counted
     let part : part_read read ≡ record { number = field.number; value = value_of field.value; begins = at + (end - length (content_of (value_of field.value))) } = ap part_read made ∙ ap (λ n. record { number = field.number; value = value_of field.value; begins = at + (end - n) }) counted in
     ap (λ ps. parts_read ps ++ rest) more ∙ ap (λ ps. ps ++ rest) (map_push part_read before read) ∙ append_assoc (parts_read before) (part_read read ∷ []) rest
     ∙ ap (λ p. parts_read before ++ (p ∷ rest)) part ∙ ap (λ ps. parts_read before ++ ps) (sym here) ∙ so_far
+
+-- fields that were lent are, when they come back, the list that they were left as
+pub lent : (new items : List Field) (n : ℕ) → n ≡ length items → length new ≡ length items → take n (new ++ drop (length new) items) ≡ new
+lent new items n size same = ap (λ (k : ℕ). take k (new ++ drop (length new) items)) (size ∙ sym same) ∙ take-append_seam new (drop (length new) items)

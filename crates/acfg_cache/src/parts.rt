@@ -38,6 +38,7 @@ fn place_fields(bytes: &[u8], fields: &mut [Field<'_>], at: usize)
     requires lie { ValuesLieIn bytes.now fields.old }
     ensures parts { parts_read fields.new ≡ parts_in at (length bytes.now) (laid_of fields.old) }
     ensures within { All EndsWithin fields.new }
+    ensures long { length fields.new ≡ length fields.old }
 {
     for i in 0..fields.len() {
         let field = field_at(fields, i);

@@ -69,3 +69,6 @@ returns-clause-parts c =
 pub returns-clause-within : goal.returns-clause-within
 returns-clause-within c =
     subst (All EndsWithin) (take_all c.loop-i.i c.loop-i.fields (omega (arith, c.loop-i.invariant.long, c.loop-i-test.false))) c.loop-i.invariant.within
+
+pub returns-clause-long : goal.returns-clause-long
+returns-clause-long c = c.loop-i.invariant.long
