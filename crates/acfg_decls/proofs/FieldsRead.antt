@@ -1,5 +1,5 @@
 -- Files read field by field: what was kept of the fields is what the whole tree has.
-use Rattle.std.proofs.Common.{◌≡◌, ℕ, Bool, true, false, List, [], ◌∷◌, ◌++◌, length, codes, Option, None, Some, refl, sym, ap, ◌∙◌, subst, arith, inl, inr}
+use Rattle.std.proofs.Common.{◌≡◌, ℕ, Bool, true, false, List, [], ◌∷◌, ◌++◌, length, codes, Option, None, Some, refl, sym, ap, ◌∙◌, inl, inr}
 use Rattle.std.specs.Prelude.{◌&&◌, ◌||◌, if◌then◌else◌}
 use Rattle.std.specs.Prelude.{unwrap_or}
 use Rattle.std.specs.List.{flat_map, list_all}
@@ -8,7 +8,8 @@ use Rattle.std.specs.Str.{bytes_eq}
 use Rattle.std.proofs.lemmas.List.{append_assoc, append-nil}
 use Rattle.std.proofs.lemmas.List.Concat.{flat_map-append}
 use Rattle.std.proofs.lemmas.Slice.Eq.{bytes_eq-Decides}
-use Rattle.acfg_text.specs.declared.tree.Tree.{Tree, out-Tree}
+use Rattle.acfg_text.specs.declared.tree.Tree.{Tree, out-Tree, out-roll-Tree}
+use Rattle.acfg_text.specs.declared.tree.Value.TheOpen.{Tree-F}
 use Rattle.acfg_text.specs.declared.tree.Item.{Item, out-Item}
 use Rattle.acfg_text.specs.declared.tree.Value.{Value}
 use Rattle.acfg_text.specs.declared.fault.TextFault.{TextFault}
@@ -21,7 +22,6 @@ use Rattle.acfg_decls.specs.declared.declared.DeclarationsFile.{DeclarationsFile
 use Rattle.acfg_decls.specs.declared.declared.DeclaredFlag.{DeclaredFlag}
 use Rattle.acfg_decls.specs.declared.declared.FlagValue.{FlagValue}
 use Rattle.acfg_decls.specs.declared.declared.ValuesFile.{ValuesFile}
-use Rattle.acfg_decls.specs.declared.declared.Placed.{Placed}
 use Rattle.acfg_decls.specs.declared.faults.DeclFault.{DeclFault}
 use Rattle.acfg_decls.specs.declared.faults.DeclFault.TheVariants.{At, OutOfMemory}
 use Rattle.acfg_decls.specs.declared.faults.DeclWhat.{DeclWhat}
@@ -33,7 +33,7 @@ use Rattle.acfg_decls.specs.declared.messages.Field.{Field}
 use Rattle.acfg_decls.specs.declared.messages.Often.TheVariants.{Repeated}
 use Rattle.acfg_decls.specs.declared.messages.Form.TheVariants.{Inner}
 use Rattle.acfg_decls.specs.Compile.{IfAt}
-use Rattle.acfg_decls.specs.Reading.{all_in, declarations_in, declared_by, flag_at, others_in, placed, text_in, the_text, value_at, value_in, Declares, FailsAt, Refuses, Sets, fault_of_text}
+use Rattle.acfg_decls.specs.Reading.{all_in, declared_by, flag_at, others_in, placed, value_at, value_in, Declares, FailsAt, Refuses, Sets, fault_of_text}
 use Rattle.acfg_decls.specs.Walk.{Fault, depth, field_of, first, inside, is_of, is_once, is_whole, item_faults, items_faults, known_faults, stands, walk}
 
 -- ## The walk over fields one behind another
@@ -73,10 +73,14 @@ module _ (inner : Message → Tree → List Fault) (of : Message) where
 abbrev missing : Message → List Item → ℕ → List Fault
 missing of items end = if is_whole of items then [] else (end, MissingField) ∷ []
 
+-- a tree's fields and the place where they end
+out_tree : (items : List Item) (end : ℕ) → out-Tree (tree items end) ≡ record { items = items; end = end }
+unfolding tree
+out_tree items end = out-roll-Tree (record { items = items; end = end })
+
 -- the walk over a whole file
 pub whole_walk : (of : Message) (items : List Item) (end : ℕ) → walk depth of (tree items end) ≡ items_faults (walk 2) of [] items ++ missing of items end
-unfolding tree
-whole_walk of items end = refl
+whole_walk of items end = ap (λ (t : Tree-F Value Item Tree). items_faults (walk 2) of [] t.items ++ missing of t.items t.end) (out_tree items end)
 
 -- ## What the fields that aren't flags tell
 
@@ -241,7 +245,6 @@ declared_lacks text rest others flags d all lacks =
 -- or none is
 pub declared_all : (source text : List ℕ) (rest : Rest) (others : List Item) (flags : List DeclaredFlag) (file : DeclarationsFile) → Declared text rest others flags → IsAll rest → is_whole message.FlagDeclarations others ≡ true
     → file ≡ declared_by source others flags (length text) → Declares source text file
-unfolding tree
 declared_all source text rest others flags file d all whole is =
     let complete : is_whole message.FlagDeclarations d.items ≡ true = sym (whole_others d.items) ∙ ap (is_whole message.FlagDeclarations) (sym d.others_are) ∙ whole in (
       tree d.items (length text),
@@ -249,7 +252,8 @@ declared_all source text rest others flags file d all whole is =
         spells = all text d.items d.read;
         whole = whole_walk message.FlagDeclarations d.items (length text) ∙ ap (λ l. l ++ missing message.FlagDeclarations d.items (length text)) d.sound ∙ ap (λ (b : Bool). if b then [] else (length text, MissingField) ∷ []) complete;
       },
-      is ∙ ap (λ o. declared_by source o flags (length text)) d.others_are ∙ ap (λ f. declared_by source (others_in d.items) f (length text)) d.flags_are ∙ same_file source d.items (all_in flag_at (codes "flag") d.items) (length text),
+      is ∙ ap (λ o. declared_by source o flags (length text)) d.others_are ∙ ap (λ f. declared_by source (others_in d.items) f (length text)) d.flags_are ∙ same_file source d.items (all_in flag_at (codes "flag") d.items) (length text)
+      ∙ sym (ap (λ (t : Tree-F Value Item Tree). declared_by source t.items (all_in flag_at (codes "flag") t.items) t.end) (out_tree d.items (length text))),
     )
   where
     same_file : (source : List ℕ) (items : List Item) (flags : List DeclaredFlag) (end : ℕ) → declared_by source (others_in items) flags end ≡ declared_by source items flags end
@@ -262,9 +266,13 @@ declared_all source text rest others flags file d all whole is =
     }
 
 pub values_all : (source text : List ℕ) (rest : Rest) (values : List FlagValue) (file : ValuesFile) → ValuesRead text rest values → IsAll rest → file ≡ record { source = source; values = values } → Sets source text file
-unfolding tree
 values_all source text rest values file d all is = (
   tree d.items (length text),
   record { spells = all text d.items d.read; whole = whole_walk message.FlagValues d.items (length text) ∙ ap (λ l. l ++ missing message.FlagValues d.items (length text)) d.sound },
-  is ∙ ap (λ v. record { source = source; values = v }) d.values_are,
+  is ∙ ap (λ v. record { source = source; values = v }) d.values_are
+  ∙ sym (ap (λ (t : Tree-F Value Item Tree). record { source = source; values = all_in value_at (codes "flag_value") t.items }) (out_tree d.items (length text))),
 )
+
+-- whether a file is whole is told by a slice of the fields that were kept
+pub whole_of : {others items : List Item} {told answer : Bool} → items ≡ others → told ≡ is_whole message.FlagDeclarations items → told ≡ answer → is_whole message.FlagDeclarations others ≡ answer
+whole_of same tells is = ap (is_whole message.FlagDeclarations) (sym same) ∙ sym tells ∙ is

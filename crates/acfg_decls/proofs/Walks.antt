@@ -1,5 +1,5 @@
 -- The fault of a walk at a message's end.
-use Rattle.std.proofs.Common.{ℕ, List, [], ◌∷◌}
+use Rattle.std.proofs.Common.{List, [], ◌∷◌}
 use Rattle.std.specs.Prelude.{if◌then◌else◌}
 use Rattle.acfg_text.specs.declared.tree.Tree.{Tree, out-Tree}
 use Rattle.acfg_decls.specs.declared.messages.Message.{Message}

@@ -50,7 +50,8 @@ pub fn read_declarations(
         )?;
         keep_field(alloc, field, &mut kept)?;
     }
-    if is_whole(Message::FlagDeclarations, kept.others.as_slice()) {
+    let others = kept.others.as_slice();
+    if is_whole(Message::FlagDeclarations, others) {
         Ok(Declarations::new(declarations_of(alloc, source, kept, bytes.len())?))
     } else {
         Err(DeclFault::At(bytes.len(), DeclWhat::MissingField))

@@ -1,8 +1,7 @@
-use Rattle.std.proofs.Common.{[], refl, ap, subst, sym}
+use Rattle.std.proofs.Common.{◌∙◌, [], refl, ap, subst, sym}
 use Rattle.std.proofs.lemmas.Option.{MatchOption-at_none, MatchOption-at_some}
 use Rattle.std.proofs.lemmas.Result.{err_from_is_err_and}
 use Rattle.acfg_decls.specs.declared.messages.Message.TheVariants as message
-use Rattle.acfg_decls.specs.declared.declared.ValuesFile.{ValuesFile}
 use Rattle.acfg_decls.proofs.FieldsRead.{ValuesRead, values_all, values_fail, values_more, text_fails}
 use Rattle.acfg_decls.proofs.files.read_values.Goals as goal
 
@@ -30,4 +29,4 @@ returns-in_err-test_field-clause-err c =
 pub returns-clause-ok : goal.returns-clause-ok
 returns-clause-ok c =
     let l = c.loop-values in
-    values_all c.args.source.now c.args.bytes.now l.fields l.values _ l.invariant (MatchOption-at_none _ _ c.in_default.is c.in_ok-field.ensures.ok) (ap (λ s. record { source = s; values = l.values }) c.in_ok-copy.ensures)
+    values_all c.args.source.now c.args.bytes.now l.fields l.values _ l.invariant (MatchOption-at_none _ _ c.in_default.is c.in_ok-field.ensures.ok) (c.new-2.ensures ∙ ap (λ s. record { source = s; values = l.values }) c.in_ok-copy.ensures)
