@@ -253,7 +253,7 @@ declared_all source text rest others flags file d all whole is =
         whole = whole_walk message.FlagDeclarations d.items (length text) ∙ ap (λ l. l ++ missing message.FlagDeclarations d.items (length text)) d.sound ∙ ap (λ (b : Bool). if b then [] else (length text, MissingField) ∷ []) complete;
       },
       is ∙ ap (λ o. declared_by source o flags (length text)) d.others_are ∙ ap (λ f. declared_by source (others_in d.items) f (length text)) d.flags_are ∙ same_file source d.items (all_in flag_at (codes "flag") d.items) (length text)
-      ∙ sym (ap (λ (t : Tree-F Value Item Tree). declared_by source t.items (all_in flag_at (codes "flag") t.items) t.end) (out_tree d.items (length text))),
+          ∙ sym (ap (λ (t : Tree-F Value Item Tree). declared_by source t.items (all_in flag_at (codes "flag") t.items) t.end) (out_tree d.items (length text))),
     )
   where
     same_file : (source : List ℕ) (items : List Item) (flags : List DeclaredFlag) (end : ℕ) → declared_by source (others_in items) flags end ≡ declared_by source items flags end
@@ -270,7 +270,7 @@ values_all source text rest values file d all is = (
   tree d.items (length text),
   record { spells = all text d.items d.read; whole = whole_walk message.FlagValues d.items (length text) ∙ ap (λ l. l ++ missing message.FlagValues d.items (length text)) d.sound },
   is ∙ ap (λ v. record { source = source; values = v }) d.values_are
-  ∙ sym (ap (λ (t : Tree-F Value Item Tree). record { source = source; values = all_in value_at (codes "flag_value") t.items }) (out_tree d.items (length text))),
+      ∙ sym (ap (λ (t : Tree-F Value Item Tree). record { source = source; values = all_in value_at (codes "flag_value") t.items }) (out_tree d.items (length text))),
 )
 
 -- whether a file is whole is told by a slice of the fields that were kept
