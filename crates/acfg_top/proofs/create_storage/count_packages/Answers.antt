@@ -1,6 +1,7 @@
 use Rattle.std.proofs.Common.{◌≡◌, true, List, ◌∷◌, ◌+◌, drop, length, map, sym, ap, ◌∙◌, arith}
 use Rattle.std.proofs.lemmas.List.{drop_more}
 use Rattle.std.specs.Borrow.{Bor}
+use Rattle.acfg_decls.specs.declared.flags.Flag.{Flag}
 use Rattle.acfg_cache.specs.Merging.{lent}
 use Rattle.acfg_images.specs.Build.{compiled_flag}
 use Rattle.acfg_images.specs.Image.{Compiled, package_names}

@@ -1,5 +1,6 @@
 use Rattle.std.proofs.Common.{List, false, map, subst, sym}
 use Rattle.std.specs.Borrow.{Bor}
+use Rattle.acfg_decls.specs.declared.flags.Flag.{Flag}
 use Rattle.std.proofs.lemmas.Result.{IfErr-weaker, IfOk-weaker, err_from_is_err_and}
 use Rattle.acfg_cache.specs.Merging.{IsMerged, lent}
 use Rattle.acfg_top.specs.Bodies.{IfRefused, IsMade, inputs_of}
