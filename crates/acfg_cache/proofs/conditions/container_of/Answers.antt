@@ -6,4 +6,4 @@ use Rattle.acfg_cache.proofs.conditions.container_of.Goals as goal
 pub returns-in_ok-clone-in-Some : goal.returns-in_ok-clone-in-Some
 returns-in_ok-clone-in-Some c =
     let same : c.as_str.result.now ≡ c.args.text.now = (bytes_eq-Decides c.as_str.result.now c.args.text.now).0 (sym c.eq.ensures ∙ c.if-eq.true) in
-    (subst IsContainer (sym c.as_str.ensures.text ∙ same) c.as_str.ensures.lawful, c.in_ok-clone-in-Some.ensures ∙ sym c.as_str.ensures.text ∙ same)
+    (subst IsContainer (sym c.as_str.ensures.text ∙ same) c.as_str.ensures.lawful, c.in_ok-clone-in-Some.ensures.cases ∙ sym c.as_str.ensures.text ∙ same)
